@@ -1,0 +1,222 @@
+//! Inputs: pools by chance in which keys begin alike, keys, items and accepted lists in them, damaged words, and all lists of few items.
+
+use crate::{
+    items::{end_of, has_end, has_start, start_of, Words},
+    random::Random,
+    BYTES,
+};
+
+/// A pool of one piece of bytes over and over, a few of them changed, so that parts of it begin alike.
+pub struct Pool {
+    pub bytes: Vec<u8>,
+    piece: usize,
+}
+
+impl Pool {
+    pub fn new(random: &mut Random) -> Self {
+        let (length, piece) = (random.below(600), 1 + random.below(40));
+        let piece = bytes(random, piece);
+        let mut bytes: Vec<u8> = piece.iter().copied().cycle().take(length).collect();
+        for _ in 0..random.below(4) {
+            if let Some(byte) = bytes.get_mut(random.below(length + 1)) {
+                *byte = random.one_of(&BYTES);
+            }
+        }
+        let piece = piece.len();
+        Self { bytes, piece }
+    }
+
+    /// Offset and length of a key, which often starts where the piece does.
+    pub fn key(&self, random: &mut Random) -> [u32; 2] {
+        let length = self.bytes.len();
+        let offset = match random.below(4) {
+            0 => random.below(length + 1),
+            _ => self.piece * random.below(length / self.piece + 1),
+        };
+        let most = (length - offset).min(255);
+        [offset as u32, random.below(most + 1) as u32]
+    }
+
+    /// The words of an item that is accepted, upright or not.
+    pub fn item(&self, random: &mut Random) -> Words {
+        let code = random.below(10) as u32;
+        let wrapper = random.one_of(&[0, 0, 0, 1, 2, 3]);
+        let mut item = [code, wrapper, 0, 0, 0, 0];
+        if has_start(code) {
+            [item[2], item[3]] = self.key(random);
+        }
+        if has_end(code) {
+            [item[4], item[5]] = self.key(random);
+        }
+        item
+    }
+
+    /// A key to ask an item for: one of its own, or one that begins so.
+    pub fn asked(&self, random: &mut Random, item: Words) -> Vec<u8> {
+        let own = match random.below(2) {
+            0 => start_of(item, &self.bytes),
+            _ => end_of(item, &self.bytes),
+        };
+        let mut key = own.unwrap_or(&[]).to_vec();
+        match random.below(4) {
+            0 => {}
+            1 => drop(key.pop()),
+            2 => {
+                let more = 1 + random.below(300);
+                key.extend(bytes(random, more));
+            }
+            _ => {
+                key.pop();
+                key.push(random.one_of(&BYTES));
+            }
+        }
+        key
+    }
+}
+
+/// Bytes of `BYTES`.
+pub fn bytes(random: &mut Random, length: usize) -> Vec<u8> {
+    (0..length).map(|_| random.one_of(&BYTES)).collect()
+}
+
+/// A word changed to one that is wrong, or nearly so, or a word too few or too many.
+pub fn damage(random: &mut Random, words: &mut Vec<u32>, pool: &[u8]) {
+    let end = pool.len() as u32;
+    let words_near = [0, 1, 3, 4, 5, 9, 10, 255, 256, end, end + 1, u32::MAX];
+    let word = random.one_of(&words_near);
+    match random.below(10) {
+        0 => drop(words.pop()),
+        1 => words.push(word),
+        _ => {
+            let at = random.below(words.len() + 1);
+            if let Some(old) = words.get_mut(at) {
+                *old = word;
+            }
+        }
+    }
+}
+
+/// A small pool, and so many keys in it: 05 at two offsets, a key that begins so, and the empty one.
+pub fn few_keys(count: usize) -> (Vec<u8>, Vec<[u32; 2]>) {
+    let mut keys = vec![[0, 1], [1, 1], [1, 2], [3, 0]];
+    keys.truncate(count);
+    (vec![0x05, 0x05, 0x00], keys)
+}
+
+/// Every list of at most three plain items over the keys, accepted or not.
+pub fn all_lists(keys: &[[u32; 2]]) -> Vec<Vec<Words>> {
+    let of = |present: bool| match present {
+        true => keys.to_vec(),
+        false => vec![[0, 0]],
+    };
+    let mut items = vec![];
+    for code in 0..10 {
+        for start in of(has_start(code)) {
+            for end in of(has_end(code)) {
+                items.push([code, 0, start[0], start[1], end[0], end[1]]);
+            }
+        }
+    }
+    let mut lists: Vec<Vec<Words>> = vec![vec![]];
+    let mut from = 0;
+    for _ in 0..3 {
+        let to = lists.len();
+        for at in from..to {
+            for item in &items {
+                let longer = [&lists[at][..], &[*item]].concat();
+                lists.push(longer);
+            }
+        }
+        from = to;
+    }
+    lists
+}
+
+/// Ascending keys, each at two places of a pool.
+pub struct Keys {
+    pub pool: Vec<u8>,
+    keys: Vec<[[u32; 2]; 2]>,
+}
+
+impl Keys {
+    /// Enough for lists of so many items.
+    pub fn new(random: &mut Random, items: usize) -> Self {
+        // short ones for few, so that many are equal or begin alike; long ones for many, or too few would be left
+        let (least, most) = if items > 100 { (5, 8) } else { (0, 3) };
+        let mut all: Vec<Vec<u8>> = vec![];
+        for _ in 0..items {
+            let length = least + random.below(most - least + 1);
+            all.push(bytes(random, length));
+        }
+        all.sort();
+        all.dedup();
+        let mut pool = vec![];
+        let mut place = |key: &Vec<u8>| {
+            pool.extend(key);
+            [(pool.len() - key.len()) as u32, key.len() as u32]
+        };
+        let first: Vec<_> = all.iter().map(&mut place).collect();
+        let both = all.iter().zip(first);
+        let keys = both.map(|(key, first)| [first, place(key)]).collect();
+        Self { pool, keys }
+    }
+
+    /// A list that is accepted, of at most so many items. It goes along the boundaries in their order: at each key the end before it,
+    /// the key, and the start after it.
+    pub fn list(&self, random: &mut Random, most: usize) -> Vec<Words> {
+        let step = 1 + random.below(5);
+        let mut list = vec![];
+        let mut from = 0;
+        while list.len() < most {
+            let unbounded = from == 0 && random.below(4) == 0;
+            let mut start = from + random.below(step);
+            if start % 3 == 0 {
+                start += 1;
+            }
+            let mut end = start + random.below(step);
+            if end % 3 == 2 {
+                end += 1;
+            }
+            let last = end / 3 >= self.keys.len();
+            if last && (start / 3 >= self.keys.len() || random.below(2) == 0) {
+                break;
+            }
+            let code = match (unbounded, start % 3, last, end % 3) {
+                (false, 1, false, 1) if start == end => random.one_of(&[0, 2]),
+                (false, 1, false, 0) => 1,
+                (false, 1, false, _) => 2,
+                (true, _, true, _) => 3,
+                (false, 1, true, _) => 4,
+                (true, _, false, 0) => 5,
+                (true, _, false, _) => 6,
+                (false, _, true, _) => 7,
+                (false, _, false, 0) => 8,
+                (false, _, false, _) => 9,
+            };
+            let wrapper = random.one_of(&[0, 0, 0, 0, 0, 1, 2, 3]);
+            let mut item = [code, wrapper, 0, 0, 0, 0];
+            if has_start(code) {
+                [item[2], item[3]] = self.keys[start / 3][random.below(2)];
+            }
+            if has_end(code) {
+                [item[4], item[5]] = self.keys[end / 3][random.below(2)];
+            }
+            list.push(item);
+            if last {
+                break;
+            }
+            from = end + 1;
+        }
+        list
+    }
+
+    /// A few of the keys.
+    pub fn some(&self, random: &mut Random, count: usize) -> Vec<Vec<u8>> {
+        let mut some = vec![];
+        for _ in 0..count {
+            let [[offset, length], _] = random.one_of(&self.keys);
+            some.push(self.pool[offset as usize..][..length as usize].to_vec());
+        }
+        some
+    }
+}

@@ -1,0 +1,433 @@
+//! Module 2: our calls on boundaries, items and keys, on all short ones and on random ones, accepted and refused. What is refused, and the
+//! words lent for an answer, the Rust hasn't: these are held against document 01 alone.
+
+use crate::{
+    boundaries::{all_boundaries, boundaries_of, paper, rust, Boundary},
+    fernsponge, hexadecimal,
+    inputs::{damage, Pool},
+    items::{all_items, end_of, item_of, start_of, Words},
+    keys_of, order_number,
+    query_item::QueryItem,
+    random::Random,
+    refusals::{self, refuse, Checked},
+    table::{Against, Held, Row},
+    Size, BYTES,
+};
+use std::fmt::Debug;
+
+/// What a call gives back: the returned number, and all the words lent for its answer, as it leaves them.
+type Given = (u64, Vec<u32>);
+
+/// The calls of one function.
+struct Calls {
+    accepted: Row,
+    refused: Row,
+}
+
+impl Calls {
+    fn new(accepted: &'static str, refused: &'static str) -> Self {
+        Self {
+            accepted: Row::new(accepted),
+            refused: Row::new(refused),
+        }
+    }
+
+    /// A call that is lent so many words. It is held against document 01's answer, and where that is no refusal against the Rust's:
+    /// `rust` is handed the words that we wrote.
+    fn hold<R: PartialEq + Debug>(
+        &mut self,
+        input: impl Fn() -> String,
+        room: usize,
+        call: impl Fn(&mut [u32]) -> u64,
+        answer: Checked<Vec<u32>>,
+        rust: impl Fn(&[u32]) -> Held<R>,
+    ) {
+        let mut ours = lent(room);
+        let returned = call(&mut ours);
+        let given = given(room, answer);
+        let (row, rust) = match (given.0, returned) {
+            (0, 0) => (&mut self.accepted, Some(rust(&ours))),
+            (0, _) => (&mut self.accepted, None),
+            _ => (&mut self.refused, None),
+        };
+        let against = Against {
+            rust,
+            paper: Some(Held {
+                ours: (returned, ours),
+                other: given,
+            }),
+            listed: false,
+        };
+        row.hold(|| format!("{}, {room} words lent", input()), against);
+    }
+}
+
+/// Words lent for an answer, marked so that what is written shows.
+fn lent(room: usize) -> Vec<u32> {
+    (0..room as u32).map(|at| 0xFE00_0000 + at).collect()
+}
+
+/// What is to be given back: an answer's numbers at the front, or 6 where they have no room; a refused call writes nothing.
+fn given(room: usize, answer: Checked<Vec<u32>>) -> Given {
+    let mut words = lent(room);
+    let fitting = answer.and_then(|numbers| match numbers.len() > room {
+        true => refuse(6, 0, 0),
+        false => Ok(numbers),
+    });
+    match fitting {
+        Err(refusal) => (refusal.returned(), words),
+        Ok(numbers) => {
+            words[..numbers.len()].copy_from_slice(&numbers);
+            (0, words)
+        }
+    }
+}
+
+/// Each function's calls.
+struct All {
+    compare: Calls,
+    invert: Calls,
+    range_set: Calls,
+    query_item: Calls,
+    contain: Calls,
+    direction: Calls,
+    order: Row,
+    collision: Row,
+}
+
+pub fn run(random: &mut Random, size: &Size) -> Vec<Row> {
+    let mut all = All {
+        compare: Calls::new("compare_boundaries", "compare_boundaries, refused"),
+        invert: Calls::new("invert", "invert, refused"),
+        range_set: Calls::new("to_range_set", "to_range_set, refused"),
+        query_item: Calls::new("to_query_item", "to_query_item, refused"),
+        contain: Calls::new("could_contain_key", "could_contain_key, refused"),
+        direction: Calls::new(
+            "could_have_items_in_direction",
+            "could_have_items_in_direction, refused",
+        ),
+        order: Row::new("item order"),
+        collision: Row::new("collision"),
+    };
+    all.short_boundaries();
+    all.short_items(size);
+    all.short_pairs(&keys_of(&BYTES, 1));
+    if size.more_pairs {
+        all.short_pairs(&keys_of(&[0x00, 0xFF], 2));
+    }
+    all.edges();
+    for _ in 0..size.random {
+        all.random(random);
+    }
+    let calls = [
+        all.compare,
+        all.invert,
+        all.range_set,
+        all.query_item,
+        all.contain,
+        all.direction,
+    ];
+    let rows = calls.map(|calls| [calls.accepted, calls.refused]);
+    let mut rows: Vec<Row> = rows.into_iter().flatten().collect();
+    rows.extend([all.order, all.collision]);
+    rows
+}
+
+impl All {
+    fn short_boundaries(&mut self) {
+        let keys = keys_of(&BYTES, 2);
+        let boundaries = all_boundaries(&keys);
+        for &x in &boundaries {
+            for &y in &boundaries {
+                self.compare(x, y, 2);
+                // in a pool that holds the two keys, and in one where both are the first
+                let pool = [&[0x7F], x.1, y.1].concat();
+                let (a, b) = (x.1.len() as u32, y.1.len() as u32);
+                self.query_item(&pool, &[x.0, y.0, 1, a, 1 + a, b], 8);
+                self.query_item(&pool, &[x.0, y.0, 1, a, 1, a], 8);
+            }
+        }
+        for kind in [0, 1, 2, 3, 4, 5, u32::MAX] {
+            for room in 0..3 {
+                for is_start in [false, true] {
+                    self.invert(kind, is_start, room);
+                }
+                for other in [0, 4, 5, u32::MAX] {
+                    self.compare((kind, &[5]), (other, &[5, 0]), room);
+                }
+            }
+        }
+    }
+
+    fn short_items(&mut self, size: &Size) {
+        let asked = keys_of(&BYTES, size.asked);
+        for (words, pool) in all_items(&keys_of(&BYTES, 2)) {
+            self.range_set(&pool, &words, 7);
+            for key in &asked {
+                self.contain(&pool, &words, key, 3);
+                self.direction(&pool, &words, key, true, 2);
+                self.direction(&pool, &words, key, false, 2);
+            }
+        }
+    }
+
+    fn short_pairs(&mut self, keys: &[Vec<u8>]) {
+        let read = |(words, pool): (Words, Vec<u8>)| {
+            let item = item_of(words, &pool)?;
+            Some((words, pool, item))
+        };
+        let items: Vec<_> = all_items(keys).into_iter().filter_map(read).collect();
+        for x in &items {
+            for y in &items {
+                self.pair((x.0, &x.1, &x.2), (y.0, &y.1, &y.2));
+            }
+        }
+    }
+
+    /// Words that are refused, or nearly so: codes, wrappers, kinds, keys, pools and rooms at the limits.
+    fn edges(&mut self) {
+        let pools = [0, 2, 256, 65_536, 65_537].map(|length| vec![0x7F; length]);
+        let keys = [
+            [0, 0],
+            [1, 0],
+            [0, 1],
+            [1, 1],
+            [2, 0],
+            [2, 1],
+            [3, 0],
+            [0, 255],
+            [0, 256],
+            [1, 255],
+            [65_536, 0],
+            [u32::MAX, u32::MAX],
+        ];
+        for pool in &pools {
+            for code in (0..=10).chain([u32::MAX]) {
+                for wrapper in (0..=5).chain([u32::MAX]) {
+                    for start in keys {
+                        for end in keys {
+                            let words = [code, wrapper, start[0], start[1], end[0], end[1]];
+                            self.range_set(pool, &words, 7);
+                            self.query_item(pool, &words, 8);
+                            for key in [&[0x7F, 0x7F][..], &[]] {
+                                self.contain(pool, &words, key, 2);
+                                self.direction(pool, &words, key, wrapper == 0, 1);
+                            }
+                        }
+                    }
+                }
+            }
+            // every number of words up to two items, and every room
+            for length in 0..13 {
+                for room in 0..9 {
+                    let words = [2, 2, 0, 1, 1, 1, 0, 0, 0, 0, 0, 0];
+                    let words = &words[..length];
+                    self.range_set(pool, words, room);
+                    self.query_item(pool, words, room);
+                    self.contain(pool, words, &[0x7F], room);
+                    self.direction(pool, words, &[0x7F], true, room);
+                }
+            }
+        }
+    }
+
+    fn random(&mut self, random: &mut Random) {
+        let pool = Pool::new(random);
+        let bytes = &pool.bytes;
+        let (x, y) = (pool.item(random), pool.item(random));
+        if let (Some(one), Some(two)) = (item_of(x, bytes), item_of(y, bytes)) {
+            self.pair((x, bytes, &one), (y, bytes, &two));
+        }
+        let mut words = x.to_vec();
+        let [a, b] = [pool.key(random), pool.key(random)];
+        let [left, right] = [random.below(5) as u32, random.below(5) as u32];
+        let mut set = vec![left, right, a[0], a[1], b[0], b[1]];
+        if let Some([x, y]) = boundaries_of([left, right, a[0], a[1], b[0], b[1]], bytes) {
+            self.compare(x, y, 1 + random.below(2));
+        }
+        self.invert(left, random.below(2) == 0, 1);
+        if random.below(4) == 0 {
+            for _ in 0..=random.below(2) {
+                damage(random, &mut words, bytes);
+                damage(random, &mut set, bytes);
+            }
+        }
+        let key = pool.asked(random, x);
+        self.range_set(bytes, &words, 5 + random.below(3));
+        self.query_item(bytes, &set, 6 + random.below(3));
+        self.contain(bytes, &words, &key, 1 + random.below(4));
+        self.direction(bytes, &words, &key, random.below(2) == 0, random.below(4));
+    }
+
+    fn compare(&mut self, x: Boundary, y: Boundary, room: usize) {
+        let order = |_| vec![order_number(paper::order(x, y)) as u32];
+        self.compare.hold(
+            || {
+                let (a, b) = (hexadecimal(x.1), hexadecimal(y.1));
+                format!("{} {a} and {} {b}", x.0, y.0)
+            },
+            room,
+            |out| fernsponge::compare_boundaries(x.0, x.1, y.0, y.1, out),
+            refusals::kinds(&[x.0, y.0]).map(order),
+            |out| Held {
+                ours: u64::from(out[0]),
+                other: rust::compare_boundaries(x, y),
+            },
+        );
+    }
+
+    fn invert(&mut self, kind: u32, is_start: bool, room: usize) {
+        self.invert.hold(
+            || format!("{kind}, a start: {is_start}"),
+            room,
+            |out| fernsponge::invert(kind, is_start, out),
+            refusals::kinds(&[kind]).map(|()| vec![paper::invert(kind, is_start)]),
+            |out| Held {
+                ours: out[0],
+                other: rust::invert(kind, is_start),
+            },
+        );
+    }
+
+    fn range_set(&mut self, pool: &[u8], words: &[u32], room: usize) {
+        self.range_set.hold(
+            || format!("{words:?} in {}", hexadecimal(pool)),
+            room,
+            |out| fernsponge::to_range_set(pool, words, out),
+            refusals::item(pool, words).map(|item| paper::to_range_set(item).to_vec()),
+            |out| Held {
+                ours: six(out).and_then(|set| boundaries_of(set, pool)).map(owned),
+                other: read(words, pool).map(|item| rust::to_range_set(&item, owned)),
+            },
+        );
+    }
+
+    fn query_item(&mut self, pool: &[u8], words: &[u32], room: usize) {
+        let numbers = |set| match paper::to_query_item(set, pool) {
+            None => vec![0],
+            Some(item) => [&[1], &item[..]].concat(),
+        };
+        self.query_item.hold(
+            || format!("{words:?} in {}", hexadecimal(pool)),
+            room,
+            |out| fernsponge::to_query_item(pool, words, out),
+            refusals::set(pool, words).map(numbers),
+            |out| Held {
+                ours: (out[0], read(&out[1..], pool).filter(|_| out[0] == 1)),
+                other: {
+                    let set = six(words).and_then(|set| boundaries_of(set, pool));
+                    let item = set.and_then(rust::to_query_item);
+                    (u32::from(item.is_some()), item)
+                },
+            },
+        );
+    }
+
+    fn contain(&mut self, pool: &[u8], words: &[u32], key: &[u8], room: usize) {
+        let held = |item| {
+            let (a, b) = keys(item, pool);
+            paper::could_contain_key(item[0], a, b, key).map(u32::from)
+        };
+        self.contain.hold(
+            || {
+                let (pool, key) = (hexadecimal(pool), hexadecimal(key));
+                format!("{words:?} in {pool}, asked for {key}")
+            },
+            room,
+            |out| fernsponge::could_contain_key(pool, words, key, out),
+            refusals::item(pool, words).map(|item| held(item).to_vec()),
+            |out| Held {
+                ours: Some([out[0], out[1], out[0]]),
+                other: read(words, pool)
+                    .and_then(|item| rust::could_contain_key(&item, key))
+                    .map(|answer| answer.map(u32::from)),
+            },
+        );
+    }
+
+    fn direction(&mut self, pool: &[u8], words: &[u32], key: &[u8], left: bool, room: usize) {
+        let yes = |item| {
+            let (a, b) = keys(item, pool);
+            u32::from(paper::could_have_items(item[0], a, b, key, left))
+        };
+        self.direction.hold(
+            || {
+                let (pool, key) = (hexadecimal(pool), hexadecimal(key));
+                format!("{words:?} in {pool}, asked for {key}, left: {left}")
+            },
+            room,
+            |out| fernsponge::could_have_items(pool, words, key, left, out),
+            refusals::item(pool, words).map(|item| vec![yes(item)]),
+            |out| Held {
+                ours: Some(out[0]),
+                other: read(words, pool)
+                    .and_then(|item| rust::could_have_items(&item, key, left))
+                    .map(u32::from),
+            },
+        );
+    }
+
+    /// Item order and collision: of our boundaries, by our order of boundaries.
+    fn pair(&mut self, x: (Words, &[u8], &QueryItem), y: (Words, &[u8], &QueryItem)) {
+        let input = || {
+            let (x_pool, y_pool) = (hexadecimal(x.1), hexadecimal(y.1));
+            format!("{:?} in {x_pool} and {:?} in {y_pool}", x.0, y.0)
+        };
+        let (Some(one), Some(two)) = (our_boundaries(x.0, x.1), our_boundaries(y.0, y.1)) else {
+            // refused by us, though both are items
+            self.order
+                .hold(input, Against::paper("refused", "an order"));
+            return;
+        };
+        let start = our_order(one[0], two[0]);
+        let end = our_order(one[1], two[1]);
+        let (x_range, y_range) = (paper::range(x.0, x.1), paper::range(y.0, y.1));
+        self.order.hold(
+            input,
+            Against::both(
+                if start == 1 { end } else { start },
+                rust::compare_items(x.2, y.2),
+                order_number(paper::compare_items(x_range, y_range)),
+            ),
+        );
+        self.collision.hold(
+            input,
+            Against::both(
+                our_order(one[1], two[0]) != 0 && our_order(two[1], one[0]) != 0,
+                rust::collides(x.2, y.2),
+                paper::collides(x_range, y_range),
+            ),
+        );
+    }
+}
+
+fn our_boundaries(words: Words, pool: &[u8]) -> Option<[Boundary<'_>; 2]> {
+    let mut set = [0; 6];
+    let returned = fernsponge::to_range_set(pool, &words, &mut set);
+    boundaries_of(set, pool).filter(|_| returned == 0)
+}
+
+/// 0 less, 1 equal, 2 greater.
+fn our_order(x: Boundary, y: Boundary) -> u64 {
+    let mut out = [u32::MAX];
+    let returned = fernsponge::compare_boundaries(x.0, x.1, y.0, y.1, &mut out);
+    returned << 32 | u64::from(out[0])
+}
+
+fn owned(boundaries: [Boundary; 2]) -> [(u32, Vec<u8>); 2] {
+    boundaries.map(|(kind, key)| (kind, key.to_vec()))
+}
+
+fn six(words: &[u32]) -> Option<Words> {
+    words.get(..6)?.try_into().ok()
+}
+
+fn read(words: &[u32], pool: &[u8]) -> Option<QueryItem> {
+    item_of(six(words)?, pool)
+}
+
+/// The keys of an accepted item, the absent ones empty.
+fn keys(item: Words, pool: &[u8]) -> (&[u8], &[u8]) {
+    let (start, end) = (start_of(item, pool), end_of(item, pool));
+    (start.unwrap_or(&[]), end.unwrap_or(&[]))
+}

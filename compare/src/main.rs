@@ -1,0 +1,124 @@
+//! Calls our functions and the Rust's that they rebuild, in one process, and counts where they agree.
+//! `compare short` takes seconds, `compare long` is the whole. `compare self` calls nothing of ours: it holds the plain reading of what has
+//! no call yet against the Rust. Exit status 1 where anything disagrees.
+
+// position_intervals.rs finds QueryItem in a crate of this name
+extern crate self as grovedb_merk;
+
+mod boundaries;
+mod fernsponge;
+mod inputs;
+mod item_calls;
+mod items;
+mod key_order;
+mod list_calls;
+mod lists;
+mod random;
+mod refusals;
+mod stand_ins;
+mod table;
+
+// the names under which the Rust's files look for these
+use stand_ins::{error, error::Error, hex_to_ascii, proofs, Query};
+
+// the Rust's own files, as build.rs brings them in
+include!(concat!(env!("OUT_DIR"), "/grovedb.rs"));
+
+use random::Random;
+use std::{cmp::Ordering, env, process::ExitCode};
+
+const SEED: u64 = 0x46_45_52_4E;
+
+/// The bytes of short keys: the two ends, the neighbour of one, and the last before the sign bit.
+const BYTES: [u8; 4] = [0x00, 0x01, 0x7F, 0xFF];
+
+/// How much a run calls.
+struct Size {
+    /// the random inputs of each function
+    random: u64,
+    /// the most bytes of the keys that every item is asked for
+    asked: usize,
+    /// whether all pairs of items over keys of two bytes are tried, and not of one alone
+    more_pairs: bool,
+    /// the keys over which all lists of three items are tried
+    listed: usize,
+}
+
+const SHORT: Size = Size {
+    random: 50_000,
+    asked: 2,
+    more_pairs: false,
+    listed: 3,
+};
+
+const LONG: Size = Size {
+    random: 1_000_000,
+    asked: 3,
+    more_pairs: true,
+    listed: 4,
+};
+
+fn main() -> ExitCode {
+    let arguments: Vec<String> = env::args().skip(1).collect();
+    let run = match arguments.join(" ").as_str() {
+        "short" => |random: &mut Random| ours(random, &SHORT),
+        "long" => |random: &mut Random| ours(random, &LONG),
+        "self" => lists::run,
+        _ => {
+            eprintln!("usage: compare short|long|self");
+            return ExitCode::from(2);
+        }
+    };
+    println!("compare {}, seed {SEED:#X}", arguments[0]);
+    let rows = run(&mut Random::new(SEED));
+    table::print(&rows);
+    match rows.iter().map(table::Row::failures).sum() {
+        0 => ExitCode::SUCCESS,
+        failures => {
+            println!("compare: {failures} calls fail");
+            ExitCode::FAILURE
+        }
+    }
+}
+
+fn ours(random: &mut Random, size: &Size) -> Vec<table::Row> {
+    let mut rows = items::run();
+    rows.extend(key_order::run(random, size.random));
+    rows.extend(item_calls::run(random, size));
+    rows.extend(list_calls::run(random, size));
+    rows
+}
+
+/// Every key of at most so many of the bytes, the empty one first.
+fn keys_of(bytes: &[u8], length: usize) -> Vec<Vec<u8>> {
+    let mut keys = vec![vec![]];
+    let mut from = 0;
+    for _ in 0..length {
+        let to = keys.len();
+        for at in from..to {
+            for byte in bytes {
+                let longer = [&keys[at][..], &[*byte]].concat();
+                keys.push(longer);
+            }
+        }
+        from = to;
+    }
+    keys
+}
+
+/// 0 less, 1 equal, 2 greater.
+fn order_number(order: Ordering) -> u64 {
+    match order {
+        Ordering::Less => 0,
+        Ordering::Equal => 1,
+        Ordering::Greater => 2,
+    }
+}
+
+/// As document 01's listing has keys: upper-case hexadecimal, an empty one as `-`.
+fn hexadecimal(key: &[u8]) -> String {
+    match key {
+        [] => "-".to_string(),
+        _ => key.iter().map(|byte| format!("{byte:02X}")).collect(),
+    }
+}

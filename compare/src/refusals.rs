@@ -1,0 +1,135 @@
+//! What document 01 refuses, and in which order, read as plainly as can be. The Rust refuses none of this.
+
+use crate::{
+    boundaries::{paper, EXCLUSIVE_END, UNBOUNDED_END, UNBOUNDED_START},
+    items::{has_end, has_start, Words},
+};
+
+const MOST_ITEMS: usize = 2_048;
+const MOST_POOL: usize = 65_536;
+const MOST_KEY: u32 = 255;
+
+#[derive(Clone, Copy, Debug, PartialEq)]
+pub struct Refusal {
+    pub number: u64,
+    pub side: u64,
+    pub index: u64,
+}
+
+pub type Checked<T> = Result<T, Refusal>;
+
+impl Refusal {
+    /// As our calls return it.
+    pub fn returned(self) -> u64 {
+        self.number + 256 * self.side + 65_536 * self.index
+    }
+}
+
+pub fn refuse<T>(number: u64, side: u64, index: usize) -> Checked<T> {
+    let index = index as u64;
+    Err(Refusal {
+        number,
+        side,
+        index,
+    })
+}
+
+/// The pool's size, before all else.
+pub fn pool(pool: &[u8]) -> Checked<()> {
+    match pool.len() > MOST_POOL {
+        true => refuse(1, 0, 0),
+        false => Ok(()),
+    }
+}
+
+/// Our interface has numbers for the five kinds, and no others.
+pub fn kinds(kinds: &[u32]) -> Checked<()> {
+    match kinds.iter().any(|kind| *kind > EXCLUSIVE_END) {
+        true => refuse(1, 0, 0),
+        false => Ok(()),
+    }
+}
+
+/// An item on its own, in an interface that is lent words: the pool, six words, then 1 and 2.
+pub fn item(pool: &[u8], words: &[u32]) -> Checked<Words> {
+    self::pool(pool)?;
+    let words = six(words)?;
+    match fault(words, pool) {
+        0 => Ok(words),
+        number => refuse(number, 0, 0),
+    }
+}
+
+/// Two boundaries in a pool: the pool, six words, the kinds, then 2. An unbounded one has no key, and its words are not read.
+pub fn set(pool: &[u8], words: &[u32]) -> Checked<Words> {
+    self::pool(pool)?;
+    let words = six(words)?;
+    kinds(&words[..2])?;
+    let bounded = |kind: u32| kind != UNBOUNDED_START && kind != UNBOUNDED_END;
+    let start_out = bounded(words[0]) && key_out(pool, words[2], words[3]);
+    let end_out = bounded(words[1]) && key_out(pool, words[4], words[5]);
+    match start_out || end_out {
+        true => refuse(2, 0, 0),
+        false => Ok(words),
+    }
+}
+
+/// A list for the algebra: the pool, the shape, each item's 1, 2 and 3, and then 4.
+pub fn list(pool: &[u8], words: &[u32], side: u64) -> Checked<()> {
+    self::pool(pool)?;
+    if words.len() % 6 != 0 || words.len() / 6 > MOST_ITEMS {
+        return refuse(1, side, 0);
+    }
+    let mut ranges = vec![];
+    for (index, item) in words.chunks(6).enumerate() {
+        let item = six(item)?;
+        let number = fault(item, pool);
+        if number != 0 {
+            return refuse(number, side, index);
+        }
+        let range = paper::range(item, pool);
+        if paper::order(range[0], range[1]).is_gt() {
+            return refuse(3, side, index);
+        }
+        ranges.push(range);
+    }
+    for index in 1..ranges.len() {
+        if paper::order(ranges[index - 1][1], ranges[index][0]).is_ge() {
+            return refuse(4, side, index);
+        }
+    }
+    Ok(())
+}
+
+fn six(words: &[u32]) -> Checked<Words> {
+    match words.try_into() {
+        Ok(words) => Ok(words),
+        Err(_) => refuse(1, 0, 0),
+    }
+}
+
+/// What is wrong with an item, 1 before 2, and 0 where nothing is.
+fn fault(words: Words, pool: &[u8]) -> u64 {
+    let [code, wrapper, start, start_length, end, end_length] = words;
+    if code > 9 || wrapper > 3 {
+        return 1;
+    }
+    if !has_start(code) && (start, start_length) != (0, 0) {
+        return 1;
+    }
+    if !has_end(code) && (end, end_length) != (0, 0) {
+        return 1;
+    }
+    if has_start(code) && key_out(pool, start, start_length) {
+        return 2;
+    }
+    if has_end(code) && key_out(pool, end, end_length) {
+        return 2;
+    }
+    0
+}
+
+/// Too long, or past the pool, also where its length is 0.
+fn key_out(pool: &[u8], offset: u32, length: u32) -> bool {
+    length > MOST_KEY || u64::from(offset) + u64::from(length) > pool.len() as u64
+}

@@ -1,0 +1,63 @@
+-- A number of the C interface stands for one answer alone, and what is written is read back. Assumes nothing.
+use Prim.Native.Nat.{ℕ, zero, suc, _≤_, _<_}
+use mathlib.Core.Path.{_≡_, refl}
+use mathlib.Core.Bool.{true}
+use native.Mathlib.Omega.{arith}
+use borrow.Author.Tests.{leb-true}
+use Rattle.key_order.specs.declared.Ordering.{Ordering}
+use Rattle.key_order.specs.declared.Ordering.the-variants.{Less, Equal, Greater}
+use Rattle.query_item.specs.declared.BoundaryKind.{BoundaryKind}
+use Rattle.query_item.specs.declared.BoundaryKind.the-variants as kind
+use Rattle.query_item.specs.declared.RangeSetItem.{RangeSetItem}
+use Rattle.query_item.specs.declared.RangeSetItem.the-variants.{UnboundedStart, UnboundedEnd, Inclusive, ExclusiveStart, ExclusiveEnd}
+use Rattle.query_item.specs.declared.RangeSet.{RangeSet}
+use Rattle.query_item.specs.Boundaries.{kindOf, keyOf, withKey}
+use Rattle.fernsponge.specs.Answers.{orderNumber, kindNumber, isKind, kindNumbered, setWords, setOfWords, mostIndex, refusalNumber}
+
+pub order-number-apart : (o p : Ordering) → orderNumber o ≡ orderNumber p → o ≡ p
+order-number-apart Less Less e = refl
+order-number-apart Less Equal e = absurd (omega arith)
+order-number-apart Less Greater e = absurd (omega arith)
+order-number-apart Equal Less e = absurd (omega arith)
+order-number-apart Equal Equal e = refl
+order-number-apart Equal Greater e = absurd (omega arith)
+order-number-apart Greater Less e = absurd (omega arith)
+order-number-apart Greater Equal e = absurd (omega arith)
+order-number-apart Greater Greater e = refl
+
+-- the kind of a kind's number is that kind, and the number of a number's kind that number
+pub kind-of-number : (k : BoundaryKind) → kindNumbered (kindNumber k) ≡ k
+kind-of-number kind.UnboundedStart = refl
+kind-of-number kind.UnboundedEnd = refl
+kind-of-number kind.Inclusive = refl
+kind-of-number kind.ExclusiveStart = refl
+kind-of-number kind.ExclusiveEnd = refl
+
+pub number-of-kind : (n : ℕ) → isKind n ≡ true → kindNumber (kindNumbered n) ≡ n
+number-of-kind zero e = refl
+number-of-kind (suc zero) e = refl
+number-of-kind (suc (suc zero)) e = refl
+number-of-kind (suc (suc (suc zero))) e = refl
+number-of-kind (suc (suc (suc (suc zero)))) e = refl
+number-of-kind (suc (suc (suc (suc (suc n))))) e = absurd (omega (arith, leb-true (suc (suc (suc (suc (suc n))))) 4 e))
+
+with-own-key : (x : RangeSetItem) → withKey (kindNumbered (kindNumber (kindOf x))) (keyOf x) ≡ x
+with-own-key UnboundedStart = refl
+with-own-key UnboundedEnd = refl
+with-own-key (Inclusive k) = refl
+with-own-key (ExclusiveStart k) = refl
+with-own-key (ExclusiveEnd k) = refl
+
+-- two boundaries are read from their words as they are
+pub set-of-own-words : (s : RangeSet) → setOfWords (setWords s) ≡ s
+unfolding setOfWords setWords
+set-of-own-words s = rw (with-own-key (s .start), with-own-key (s .end))
+
+-- two refusals have two numbers, and none has that of acceptance
+module _ {number side index number′ side′ index′ : ℕ} where
+  pub refusal-number-apart : number < 256 → side < 256 → index ≤ mostIndex → number′ < 256 → side′ < 256 → index′ ≤ mostIndex
+      → refusalNumber number side index ≡ refusalNumber number′ side′ index′ → (number ≡ number′) × (side ≡ side′) × (index ≡ index′)
+  refusal-number-apart a b c a′ b′ c′ e = omega arith
+
+pub refusal-number-positive : (number side index : ℕ) → 0 < number → 0 < refusalNumber number side index
+refusal-number-positive number side index h = omega arith

@@ -1,0 +1,24 @@
+-- `fernsponge::answer::give_direction` meets its contract: each arm gives the numbers of the answer that it took apart. Assumes nothing.
+use Rattle.fernsponge.proofs.Given.{refuses}
+use borrow.Author.Needs.{needs}
+use Rattle.fernsponge.proofs.answer.give_direction.Statement.{statement}
+use Rattle.fernsponge.proofs.answer.give_direction.Tie as tie
+
+returns : tie.Need-returns
+returns c = rw (c .before .before .before .before .before .before .answer .given .1, ← c .before .before .before .bool-number .ensures) (c .before .before .give-one .ensures)
+
+returns-2 : tie.Need-returns-2
+returns-2 c = rw (c .before .before .answer2 .given .1) (refuses (c .refusal-number .ensures))
+
+pub give-direction-spec : {M : Type 1} → statement M
+give-direction-spec =
+    tie.close
+    (tie.spec
+    (λ c. search needs)
+    (λ c κs. search needs)
+    (λ c κs. search needs)
+    (λ c. search needs)
+    (λ c κs. search needs)
+    (λ c. search needs)
+    returns
+    returns-2)

@@ -1,0 +1,95 @@
+-- How the passes that read go over a list, a turn at a time: what is left of it at an index. Each law takes what the turn's calls gave.
+-- Assumes nothing.
+use Prim.Native.Nat.{ℕ, zero, suc, _+_, _-_, _≤_, _<_}
+use mathlib.Core.Path.{_≡_, refl}
+use mathlib.Core.Bool.{Bool, true, false, not, _&&_}
+use mathlib.Core.List.{List}
+use native.Mathlib.Omega.{arith}
+use lib.ListN.{length}
+use Rattle.query_item.specs.declared.ItemWords.{ItemWords}
+use Rattle.query_item.specs.Items.{itemAt, itemsFrom}
+use Rattle.item_check.proofs.Scans.{items-end, items-more}
+use Rattle.insert.specs.declared.Fate.{Fate}
+use Rattle.insert.specs.declared.Fate.the-variants.{Replaced, Stays, Merges}
+use Rattle.insert.specs.Insertion.{orderItems, plain, sameItem, endsBelow, fateOf, keepBy, staying, mergeBy, mergedWith}
+use Rattle.insert.specs.Passes.{lastOrder, meetsPlain, repeats, isStaying, oneIf, keepsPlace, firstChanged}
+
+module _ (pool ws : List ℕ) (i count : ℕ) where
+  abbrev left : ℕ → List ItemWords
+  left j = itemsFrom ws j (count - j)
+
+  -- ---- what merges
+
+  pub merged-more : (new cur : ItemWords) {cur′ old : ItemWords} {fate : Fate} → i < count → old ≡ itemAt ws i → fate ≡ fateOf pool new old
+      → cur′ ≡ mergeBy pool fate cur old → mergedWith pool new cur (left i) ≡ mergedWith pool new cur′ (left (i + 1))
+  unfolding mergedWith
+  merged-more new cur h p q r = rw (r, q, p, items-more ws i count h)
+
+  pub merged-end : (new cur : ItemWords) → count ≤ i → mergedWith pool new cur (left i) ≡ cur
+  unfolding mergedWith
+  merged-end new cur h = rw (items-end ws i count h)
+
+  -- ---- how many stay
+
+  length-keep : (f : Fate) (it : ItemWords) (its : List ItemWords) → length (keepBy f it its) ≡ oneIf (isStaying f) + length its
+  length-keep Replaced it its = omega arith
+  length-keep Stays it its = omega arith
+  length-keep Merges it its = omega arith
+
+  pub stay-more : (new : ItemWords) {old : ItemWords} {fate : Fate} {t : Bool} {n : ℕ} → i < count → old ≡ itemAt ws i → fate ≡ fateOf pool new old
+      → t ≡ isStaying fate → n ≡ oneIf t → length (staying pool new (left i)) ≡ n + length (staying pool new (left (i + 1)))
+  unfolding staying
+  stay-more new h p q r s =
+      rw (s, r, q, p, items-more ws i count h) (length-keep (fateOf pool new (itemAt ws i)) (itemAt ws i) (staying pool new (left (i + 1))))
+
+  pub stay-end : (new : ItemWords) → count ≤ i → length (staying pool new (left i)) ≡ 0
+  unfolding staying
+  stay-end new h = rw (items-end ws i count h)
+
+  -- ---- the first change
+
+  pub first-here : (new result : ItemWords) {old : ItemWords} → i < count → old ≡ itemAt ws i → keepsPlace pool new result old ≡ false
+      → firstChanged pool new result (left i) ≡ 0
+  unfolding firstChanged
+  first-here new result h p q = rw (items-more ws i count h, ← p, q)
+
+  pub first-next : (new result : ItemWords) {old : ItemWords} → i < count → old ≡ itemAt ws i → keepsPlace pool new result old ≡ true
+      → firstChanged pool new result (left i) ≡ suc (firstChanged pool new result (left (i + 1)))
+  unfolding firstChanged
+  first-next new result h p q = rw (items-more ws i count h, ← p, q)
+
+  pub first-end : (new result : ItemWords) → count ≤ i → firstChanged pool new result (left i) ≡ 0
+  unfolding firstChanged
+  first-end new result h = rw (items-end ws i count h)
+
+  -- ---- an item that is repeated
+
+  pub repeats-here : (it : ItemWords) {old : ItemWords} → i < count → old ≡ itemAt ws i → sameItem pool old it ≡ true → repeats pool (left i) it ≡ true
+  unfolding repeats
+  repeats-here it h p q = rw (items-more ws i count h, ← p, q)
+
+  pub repeats-next : (it : ItemWords) {old : ItemWords} → i < count → old ≡ itemAt ws i → sameItem pool old it ≡ false
+      → repeats pool (left i) it ≡ repeats pool (left (i + 1)) it
+  unfolding repeats
+  repeats-next it h p q = rw (items-more ws i count h, ← p, q)
+
+  pub repeats-end : (it : ItemWords) → count ≤ i → repeats pool (left i) it ≡ false
+  unfolding repeats
+  repeats-end it h = rw (items-end ws i count h)
+
+pub one-at-most : (t : Bool) {n : ℕ} → n ≡ oneIf t → n ≤ 1
+one-at-most true e = omega arith
+one-at-most false e = omega arith
+
+-- ---- the item before an index
+
+module _ (pool ws : List ℕ) where
+  pub last-before : (i : ℕ) (it : ItemWords) → (i ≡ 0 → ⊥) → lastOrder pool ws i it ≡ orderItems pool (itemAt ws (i - 1)) it
+  unfolding lastOrder
+  last-before zero it h = absurd (h refl)
+  last-before (suc i) it h = let e : suc i - 1 ≡ i = omega arith in rw e
+
+  pub meets-before : (p : ℕ) (it : ItemWords) → (p ≡ 0 → ⊥) → meetsPlain pool ws p it ≡ plain it && not (endsBelow pool (itemAt ws (p - 1)) it)
+  unfolding meetsPlain
+  meets-before zero it h = absurd (h refl)
+  meets-before (suc p) it h = let e : suc p - 1 ≡ p = omega arith in rw e

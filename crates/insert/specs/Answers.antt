@@ -1,0 +1,83 @@
+-- What `insert_item` answers and writes: the refusals in their order, the room, the words. Definitions only. Assumes nothing.
+use Prim.Native.Nat.{ℕ, suc, _-_, _*_, _/_, max}
+use mathlib.Core.List.{List, [], _∷_, _++_}
+use mathlib.Core.Bool.{cond, _||_}
+use lib.ListN.{length, drop, replicate}
+use lib.Dec.{ltb}
+use Rattle.query_item.specs.declared.ItemWords.{ItemWords}
+use Rattle.query_item.specs.Items.{itemSize, itemsFrom, flat}
+use Rattle.item_check.specs.Checks.{Answer, answered, refused, Verdict, accepted, andThen, refusedAs, mostItems, poolVerdict, firstBad, faultAt, uprightFault}
+use Rattle.insert.specs.declared.Inserted.{Inserted}
+use Rattle.insert.specs.declared.Inserted.the-variants as inserted
+use Rattle.insert.specs.Insertion as insertion
+
+-- the paper's numbers and values for each case of the answer: the new count, or the refusal
+abbrev pub insertedOf : Inserted → Answer ℕ
+insertedOf (inserted.Count n) = answered n
+insertedOf (inserted.Refused r) = refusedAs r
+
+-- ---- refusals
+
+-- 01 no. 1, reading A10: the old count beyond its buffer, or over 2,048; reading A3: spare words are never refused
+abbrev pub bufferVerdict : List ℕ → ℕ → Verdict
+bufferVerdict ws count = cond (ltb (length ws / itemSize) count || ltb mostItems count) (refused 1 0 0) accepted
+
+-- 01 no. 4: the first index that breaks a rule, alone or with an earlier one
+unfoldable pub firstClash : List ℕ → ℕ → List ItemWords → List ItemWords → Verdict
+firstClash pool i earlier [] = accepted
+firstClash pool i earlier (it ∷ its) = cond (insertion.clashes pool earlier it) (refused 4 0 i) (firstClash pool (suc i) (it ∷ earlier) its)
+
+abbrev pub orderVerdict : List ℕ → List ItemWords → Verdict
+orderVerdict pool its = firstClash pool 0 [] its
+
+-- 01 Order: the pool, the list's shape, its items one by one, 4, then the new item, which is side 1 and index 0
+
+abbrev pub orderedVerdict : List ℕ → List ItemWords → Verdict
+orderedVerdict pool its = andThen (firstBad pool 0 0 its) (orderVerdict pool its)
+
+abbrev pub inputVerdict : List ℕ → List ℕ → ℕ → ItemWords → Verdict
+inputVerdict pool ws count new =
+    andThen (poolVerdict pool)
+    (andThen (bufferVerdict ws count)
+    (andThen (orderedVerdict pool (itemsFrom ws 0 count)) (faultAt (uprightFault pool new) 1 0)))
+
+-- 01 m5: 6 exactly if the final count exceeds the buffer or 2,048
+abbrev pub roomAnswer : List ℕ → ℕ → Answer ℕ
+roomAnswer ws n = cond (ltb (length ws / itemSize) n || ltb mostItems n) (refused 6 0 0) (answered n)
+
+-- ---- the words
+
+-- the words of a list of items
+unfoldable pub flatAll : List ItemWords → List ℕ
+flatAll [] = []
+flatAll (it ∷ its) = flat it ++ flatAll its
+
+-- 01 m5: the words of the list; freed words up to the old count become 0, later ones stay
+unfoldable pub laid : List ℕ → ℕ → List ItemWords → List ℕ
+laid ws count its =
+    flatAll its ++ (replicate (itemSize * (count - length its)) 0 ++ drop (itemSize * max count (length its)) ws)
+
+-- 01 m5, reading A1: on a refusal all words stay
+abbrev pub wordsBy : Answer ℕ → List ℕ → List ℕ → List ℕ
+wordsBy (answered n) before after = after
+wordsBy (refused number side index) before after = before
+
+-- ---- the call
+
+-- 01 m5: the list after insertion
+abbrev pub listAfter : List ℕ → List ℕ → ℕ → ItemWords → List ItemWords
+listAfter pool ws count new = insertion.inserted pool new (itemsFrom ws 0 count)
+
+-- where the checks have passed: the room decides
+abbrev pub checkedAnswer : List ℕ → List ℕ → ℕ → ItemWords → Answer ℕ
+checkedAnswer pool ws count new = roomAnswer ws (length (listAfter pool ws count new))
+
+abbrev pub checkedWords : List ℕ → List ℕ → ℕ → ItemWords → List ℕ
+checkedWords pool ws count new = wordsBy (checkedAnswer pool ws count new) ws (laid ws count (listAfter pool ws count new))
+
+-- 01 Order: the checks, then 6
+abbrev pub insertAnswer : List ℕ → List ℕ → ℕ → ItemWords → Answer ℕ
+insertAnswer pool ws count new = andThen (inputVerdict pool ws count new) (checkedAnswer pool ws count new)
+
+abbrev pub insertWords : List ℕ → List ℕ → ℕ → ItemWords → List ℕ
+insertWords pool ws count new = wordsBy (insertAnswer pool ws count new) ws (laid ws count (listAfter pool ws count new))

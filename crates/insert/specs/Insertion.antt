@@ -1,0 +1,122 @@
+-- Insertion into a list of items: the order of the list, what becomes of each of its items, what merges, and where the result goes.
+-- Definitions only. Assumes nothing.
+use Prim.Native.Nat.{ℕ}
+use mathlib.Core.List.{List, [], _∷_}
+use mathlib.Core.Bool.{Bool, false, cond, not, _||_, _&&_}
+use lib.Dec.{eqb}
+use Rattle.key_order.specs.declared.Ordering.{Ordering}
+use Rattle.key_order.specs.Order.{thenBy, smaller, isLess}
+use Rattle.query_item.specs.declared.ItemWords.{ItemWords}
+use Rattle.query_item.specs.declared.RangeSetItem.{RangeSetItem}
+use Rattle.query_item.specs.declared.RangeSet.{RangeSet}
+use Rattle.query_item.specs.declared.MaybeItem.{MaybeItem}
+use Rattle.query_item.specs.declared.MaybeItem.the-variants.{NoItem, Item}
+use Rattle.query_item.specs.Items.{bytesOf, same, wordsOf, queryItem, holds}
+use Rattle.query_item.specs.Boundaries.{compareIn, fromTo, rangeOf, toQueryItem}
+use Rattle.insert.specs.declared.Fate.{Fate}
+use Rattle.insert.specs.declared.Fate.the-variants.{Replaced, Stays, Merges}
+
+-- ---- the order of a list
+
+-- 01 m5: items are ordered by start, then end
+unfoldable pub orderItems : List ℕ → ItemWords → ItemWords → Ordering
+orderItems pool x y = thenBy (compareIn pool (rangeOf x .start) (rangeOf y .start)) (compareIn pool (rangeOf x .end) (rangeOf y .end))
+
+-- 01 Wrapper: 0 plain
+abbrev pub plain : ItemWords → Bool
+plain it = eqb (it .wrapper) 0
+
+-- 01 m5: equal in code, wrapper and key bytes
+unfoldable pub sameItem : List ℕ → ItemWords → ItemWords → Bool
+sameItem pool x y =
+    eqb (x .code) (y .code)
+    && eqb (x .wrapper) (y .wrapper)
+    && same (bytesOf pool (x .start)) (bytesOf pool (y .start))
+    && same (bytesOf pool (x .end)) (bytesOf pool (y .end))
+
+-- one item ends below the start of another
+unfoldable pub endsBelow : List ℕ → ItemWords → ItemWords → Bool
+endsBelow pool x y = isLess (compareIn pool (rangeOf x .end) (rangeOf y .start))
+
+-- 01 m5, reading A6: an item breaks the order with an earlier one that it sorts below, with an earlier plain one that does not end below
+-- its start where it is plain too, and with an earlier one that is equal
+abbrev pub clash : List ℕ → ItemWords → ItemWords → Bool
+clash pool earlier it =
+    isLess (orderItems pool it earlier)
+    || (plain earlier && plain it && not (endsBelow pool earlier it))
+    || sameItem pool earlier it
+
+-- with any of the earlier ones
+unfoldable pub clashes : List ℕ → List ItemWords → ItemWords → Bool
+clashes pool [] it = false
+clashes pool (e ∷ es) it = clash pool e it || clashes pool es it
+
+-- ---- what becomes of the list's items
+
+-- 01 m3: two ranges are disjoint when one end is below the other start
+abbrev pub disjoint : List ℕ → ItemWords → ItemWords → Bool
+disjoint pool x y = endsBelow pool x y || endsBelow pool y x
+
+-- 01 m5: an equal item is replaced; if either side is wrapped, both stay; plain items that are not disjoint merge
+unfoldable pub fateOf : List ℕ → ItemWords → ItemWords → Fate
+fateOf pool new it =
+    cond (sameItem pool new it) Replaced
+    (cond (not (plain new && plain it)) Stays
+    (cond (disjoint pool new it) Stays Merges))
+
+abbrev pub keepBy : Fate → ItemWords → List ItemWords → List ItemWords
+keepBy Replaced it its = its
+keepBy Stays it its = it ∷ its
+keepBy Merges it its = its
+
+-- the items that stay
+unfoldable pub staying : List ℕ → ItemWords → List ItemWords → List ItemWords
+staying pool new [] = []
+staying pool new (it ∷ its) = keepBy (fateOf pool new it) it (staying pool new its)
+
+-- ---- the result
+
+-- 01 m5, reading A9: to the smaller start and the larger end; on a tie, bytes and kind, the new item's offset stays
+
+abbrev pub smallerStart : List ℕ → RangeSetItem → RangeSetItem → RangeSetItem
+smallerStart pool new old = smaller (compareIn pool old new) old new
+
+abbrev pub largerEnd : List ℕ → RangeSetItem → RangeSetItem → RangeSetItem
+largerEnd pool new old = smaller (compareIn pool new old) old new
+
+abbrev pub hull : List ℕ → RangeSet → RangeSet → RangeSet
+hull pool new old = fromTo (smallerStart pool (new .start) (old .start)) (largerEnd pool (new .end) (old .end))
+
+-- 01 m5: converted; two plain items that merge always make one
+abbrev pub plainItem : ItemWords → MaybeItem → ItemWords
+plainItem it NoItem = it
+plainItem it (Item q) = wordsOf 0 q
+
+unfoldable pub merged : List ℕ → ItemWords → ItemWords → ItemWords
+merged pool new old = plainItem new (toQueryItem pool (hull pool (rangeOf new) (rangeOf old)))
+
+abbrev pub mergeBy : List ℕ → Fate → ItemWords → ItemWords → ItemWords
+mergeBy pool Replaced cur it = cur
+mergeBy pool Stays cur it = cur
+mergeBy pool Merges cur it = merged pool cur it
+
+-- 01 m5, reading A8: the new item with all that merge with it, in the list's order; where none does it stays as it is
+unfoldable pub mergedWith : List ℕ → ItemWords → ItemWords → List ItemWords → ItemWords
+mergedWith pool new cur [] = cur
+mergedWith pool new cur (it ∷ its) = mergedWith pool new (mergeBy pool (fateOf pool new it) cur it) its
+
+-- 01 m5: the result goes before the first item not below it
+unfoldable pub placed : List ℕ → ItemWords → List ItemWords → List ItemWords
+placed pool result [] = result ∷ []
+placed pool result (it ∷ its) = cond (isLess (orderItems pool it result)) (it ∷ placed pool result its) (result ∷ it ∷ its)
+
+-- 01 m5, reading A7: what is replaced or merged is taken out, then the result is put anew
+unfoldable pub inserted : List ℕ → ItemWords → List ItemWords → List ItemWords
+inserted pool new its = placed pool (mergedWith pool new new its) (staying pool new its)
+
+-- ---- which keys a list holds
+
+-- those that one of its items holds by the table of 01
+unfoldable pub holdsAny : List ℕ → List ItemWords → List ℕ → Bool
+holdsAny pool [] k = false
+holdsAny pool (it ∷ its) k = holds pool (queryItem it) k || holdsAny pool its k

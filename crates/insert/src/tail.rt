@@ -1,0 +1,130 @@
+// The tail of the list, from the first changed item on: where it starts, and how it is rewritten.
+ghost use mathlib.Core.Path.{_≡_};
+ghost use Prim.Native.Nat.{_/_, _≤_};
+ghost use lib.ListN.{length};
+ghost use Rattle.query_item.specs.Items.{itemSize, itemsFrom};
+ghost use Rattle.insert.specs.Insertion.{staying, placed};
+ghost use Rattle.insert.specs.Answers.{laid};
+ghost use Rattle.insert.specs.Passes.{keepsPlace, firstChanged, pick, goesFirst, zeroItem, Moved, cleared};
+use crate::merge::fate_of;
+use crate::merge::is_staying;
+use crate::order::order_items;
+use query_item::ItemWords;
+use query_item::KeyAt;
+use query_item::boundary::is_less;
+use query_item::item::item_at;
+use query_item::item::write_item;
+
+// How many items at the front stay where they are.
+pub(crate) fn first_changed(
+    pool: &[u8],
+    words: &[u32],
+    count: usize,
+    item: ItemWords,
+    result: ItemWords,
+) -> usize
+    ensures { λ r. ⌜ r ≡ firstChanged (now (pool .entry)) item result (itemsFrom (now (words .entry)) 0 count) ⌝ }
+{
+    let mut i: usize = 0;
+    while i < count {
+        if !keeps_place(pool, item, result, item_at(words, i)) {
+            return i;
+        }
+        i += 1;
+    }
+    i
+}
+
+fn keeps_place(pool: &[u8], item: ItemWords, result: ItemWords, old: ItemWords) -> bool
+    ensures { λ r. ⌜ r ≡ keepsPlace (now (pool .entry)) item result old ⌝ }
+{
+    is_staying(fate_of(pool, item, old)) & is_less(order_items(pool, old, result))
+}
+
+// Takes out what does not stay of count items, puts the result in, and sets the words that this frees to 0.
+pub(crate) fn rewrite(
+    pool: &[u8],
+    tail: &mut [u32],
+    count: usize,
+    item: ItemWords,
+    result: ItemWords,
+)
+    requires { ⌜ (count ≤ length (now tail) / itemSize) × (length (placed (now pool) result (staying (now pool) item (itemsFrom (now tail) 0 count))) ≤ length (now tail) / itemSize) ⌝ }
+    ensures { λ _. ⌜ now (tail .exit) ≡ laid (now (tail .entry)) count (placed (now (pool .entry)) result (staying (now (pool .entry)) item (itemsFrom (now (tail .entry)) 0 count))) ⌝ }
+{
+    let end = move_items(pool, tail, count, item, result);
+    clear_items(tail, end, count);
+}
+
+// One pass. One item is always in hand: the result until it is placed, then the last one read. So each item is written where all that stood
+// there is read already.
+fn move_items(
+    pool: &[u8],
+    tail: &mut [u32],
+    count: usize,
+    item: ItemWords,
+    result: ItemWords,
+) -> usize
+    requires { ⌜ (count ≤ length (now tail) / itemSize) × (length (placed (now pool) result (staying (now pool) item (itemsFrom (now tail) 0 count))) ≤ length (now tail) / itemSize) ⌝ }
+    ensures { λ r. ⌜ (r ≡ length (placed (now (pool .entry)) result (staying (now (pool .entry)) item (itemsFrom (now (tail .entry)) 0 count)))) × Moved (now (tail .entry)) count (placed (now (pool .entry)) result (staying (now (pool .entry)) item (itemsFrom (now (tail .entry)) 0 count))) (now (tail .exit)) ⌝ }
+{
+    let mut hand = result;
+    let mut is_placed = false;
+    let mut to: usize = 0;
+    let mut i: usize = 0;
+    while i < count {
+        let old = item_at(tail, i);
+        i += 1;
+        if is_staying(fate_of(pool, item, old)) {
+            let first = goes_first(pool, is_placed, old, hand);
+            write_item(tail, to, pick_item(first, old, hand));
+            hand = pick_item(first, hand, old);
+            is_placed = !first;
+            to += 1;
+        }
+    }
+    write_item(tail, to, hand);
+    to + 1
+}
+
+fn goes_first(pool: &[u8], is_placed: bool, old: ItemWords, hand: ItemWords) -> bool
+    ensures { λ r. ⌜ r ≡ goesFirst (now (pool .entry)) «is_placed» old hand ⌝ }
+{
+    if is_placed {
+        return false;
+    }
+    is_less(order_items(pool, old, hand))
+}
+
+fn pick_item(t: bool, x: ItemWords, y: ItemWords) -> ItemWords
+    ensures { λ r. ⌜ r ≡ pick t x y ⌝ }
+{
+    if t { x } else { y }
+}
+
+// Sets the items from an index up to another to 0.
+fn clear_items(tail: &mut [u32], from: usize, to: usize)
+    requires { ⌜ (from ≤ length (now tail) / itemSize) × (to ≤ length (now tail) / itemSize) ⌝ }
+    ensures { λ _. ⌜ now (tail .exit) ≡ cleared (now (tail .entry)) from to ⌝ }
+{
+    let mut i = from;
+    while i < to {
+        write_item(tail, i, zero_item());
+        i += 1;
+    }
+}
+
+fn zero_item() -> ItemWords
+    ensures { λ r. ⌜ r ≡ zeroItem ⌝ }
+{
+    let none = KeyAt {
+        offset: 0,
+        length: 0,
+    };
+    ItemWords {
+        code: 0,
+        wrapper: 0,
+        start: none,
+        end: none,
+    }
+}

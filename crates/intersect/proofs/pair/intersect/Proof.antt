@@ -1,0 +1,23 @@
+-- `intersect::pair::intersect` meets its contract: each field is the conversion of its part. Assumes nothing.
+use borrow.Author.Needs.{needs}
+use Rattle.intersect.proofs.pair.intersect.Statement.{statement}
+use Rattle.intersect.proofs.pair.intersect.Tie as tie
+
+returns : tie.Need-returns
+returns c = rw (c .item-of5 .ensures, c .before .right-over2 .ensures, c .before .before .item-of4 .ensures, c .before .before .before .left-over2 .ensures, c .before .before .before .before .item-of3 .ensures, c .before .before .before .before .before .right-over .ensures, c .before .before .before .before .before .before .item-of2 .ensures, c .before .before .before .before .before .before .before .left-over .ensures, c .before .before .before .before .before .before .before .before .item-of .ensures, c .before .before .before .before .before .before .before .before .before .meet-sets .ensures)
+
+pub intersect-spec : {M : Type 1} → statement M
+intersect-spec =
+    tie.close
+    (tie.spec
+    (λ c κs. search needs)
+    (λ c κs. search needs)
+    (λ c κs. search needs)
+    (λ c κs. search needs)
+    (λ c κs. search needs)
+    (λ c κs. search needs)
+    (λ c κs. search needs)
+    (λ c κs. search needs)
+    (λ c κs. search needs)
+    (λ c κs. search needs)
+    returns)

@@ -1,0 +1,4 @@
+pub mod Pair
+pub mod Lists
+pub mod Sweep
+pub mod Demand

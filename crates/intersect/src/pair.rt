@@ -1,0 +1,207 @@
+// The pair: what two ranges share, and their leftovers.
+ghost use mathlib.Core.Path.{_≡_};
+ghost use mathlib.Core.Bool.{cond};
+ghost use mathlib.Core.List.{[], _∷_};
+ghost use Rattle.key_order.specs.Order.{smaller};
+ghost use Rattle.item_check.specs.Checks.{verdictOf};
+ghost use Rattle.intersect.specs.Pair.{before, largerStart, smallerEnd, overlap, meetSets, leftPart, leftOver, rightPart, rightOver, asSets, converted, intersection, pairOf, twoVerdict, pairVerdict, pairAnswer};
+use crate::MaybeSet;
+use crate::PairAnswer;
+use crate::QueryItemIntersectionResult;
+use item_check::Checked;
+use item_check::check_fault;
+use item_check::check_pool;
+use item_check::upright_fault;
+use key_order::Ordering;
+use query_item::ItemWords;
+use query_item::MaybeItem;
+use query_item::RangeSet;
+use query_item::RangeSetItem;
+use query_item::boundary::compare_in;
+use query_item::boundary::invert_in;
+use query_item::boundary::is_less;
+use query_item::item::query_item;
+
+// What two items share, and what is left over of each.
+pub fn intersect_items(pool: &[u8], ours: ItemWords, theirs: ItemWords) -> PairAnswer
+    ensures { λ r. ⌜ pairOf r ≡ pairAnswer (now (pool .entry)) ours theirs ⌝ }
+{
+    match check_pair(pool, ours, theirs) {
+        Checked::Refused(r) => PairAnswer::Refused(r),
+        Checked::Accepted => PairAnswer::Pair(intersect(
+            pool,
+            query_item(ours).to_range_set(),
+            query_item(theirs).to_range_set(),
+        )),
+    }
+}
+
+// The pool, then ours, then theirs.
+fn check_pair(pool: &[u8], ours: ItemWords, theirs: ItemWords) -> Checked
+    ensures { λ r. ⌜ verdictOf r ≡ pairVerdict (now (pool .entry)) ours theirs ⌝ }
+{
+    match check_pool(pool) {
+        Checked::Refused(r) => Checked::Refused(r),
+        Checked::Accepted => check_two(upright_fault(pool, ours), upright_fault(pool, theirs)),
+    }
+}
+
+fn check_two(ours: u32, theirs: u32) -> Checked
+    ensures { λ r. ⌜ verdictOf r ≡ twoVerdict ours theirs ⌝ }
+{
+    match check_fault(ours, 0, 0) {
+        Checked::Refused(r) => Checked::Refused(r),
+        Checked::Accepted => check_fault(theirs, 1, 0),
+    }
+}
+
+// inner: the pair of two ranges.
+pub fn intersect(pool: &[u8], ours: RangeSet, theirs: RangeSet) -> QueryItemIntersectionResult
+    ensures { λ r. ⌜ r ≡ intersection (now (pool .entry)) ours theirs ⌝ }
+{
+    QueryItemIntersectionResult {
+        in_both: item_of(pool, meet_sets(pool, ours, theirs)),
+        ours_left: item_of(pool, left_over(pool, ours, theirs)),
+        ours_right: item_of(pool, right_over(pool, ours, theirs)),
+        theirs_left: item_of(pool, left_over(pool, theirs, ours)),
+        theirs_right: item_of(pool, right_over(pool, theirs, ours)),
+    }
+}
+
+// inner: the item of a range, if there is one.
+pub fn item_of(pool: &[u8], set: MaybeSet) -> MaybeItem
+    ensures { λ r. ⌜ r ≡ converted (now (pool .entry)) (asSets set) ⌝ }
+{
+    match set {
+        MaybeSet::NoSet => MaybeItem::NoItem,
+        MaybeSet::Set(s) => s.to_query_item(pool),
+    }
+}
+
+// inner: whether a ends below the start of b.
+pub fn is_before(pool: &[u8], a: RangeSet, b: RangeSet) -> bool
+    ensures { λ r. ⌜ r ≡ before (now (pool .entry)) a b ⌝ }
+{
+    let end = a.end;
+    let start = b.start;
+    is_less(compare_in(pool, end, start))
+}
+
+// inner: what two ranges share.
+pub fn meet_sets(pool: &[u8], ours: RangeSet, theirs: RangeSet) -> MaybeSet
+    ensures { λ r. ⌜ asSets r ≡ meetSets (now (pool .entry)) ours theirs ⌝ }
+{
+    meet_by(
+        pool,
+        is_before(pool, ours, theirs) | is_before(pool, theirs, ours),
+        ours,
+        theirs,
+    )
+}
+
+// inner: the same where it is known whether the two are disjoint.
+pub fn meet_by(pool: &[u8], disjoint: bool, ours: RangeSet, theirs: RangeSet) -> MaybeSet
+    ensures { λ r. ⌜ asSets r ≡ cond disjoint [] (overlap (now (pool .entry)) ours theirs ∷ []) ⌝ }
+{
+    if disjoint {
+        return MaybeSet::NoSet;
+    }
+    MaybeSet::Set(RangeSet {
+        start: larger_start(pool, ours, theirs),
+        end: smaller_end(pool, ours, theirs),
+    })
+}
+
+// The larger start, and ours on a tie.
+fn larger_start(pool: &[u8], ours: RangeSet, theirs: RangeSet) -> RangeSetItem
+    ensures { λ r. ⌜ r ≡ largerStart (now (pool .entry)) ours theirs ⌝ }
+{
+    let a = ours.start;
+    let b = theirs.start;
+    smaller_of(compare_in(pool, a, b), b, a)
+}
+
+// The smaller end, and theirs on a tie.
+fn smaller_end(pool: &[u8], ours: RangeSet, theirs: RangeSet) -> RangeSetItem
+    ensures { λ r. ⌜ r ≡ smallerEnd (now (pool .entry)) ours theirs ⌝ }
+{
+    let a = ours.end;
+    let b = theirs.end;
+    smaller_of(compare_in(pool, a, b), a, b)
+}
+
+fn smaller_of(o: Ordering, x: RangeSetItem, y: RangeSetItem) -> RangeSetItem
+    ensures { λ r. ⌜ r ≡ smaller o x y ⌝ }
+{
+    match o {
+        Ordering::Less => x,
+        Ordering::Equal => y,
+        Ordering::Greater => y,
+    }
+}
+
+// inner: what of a stands left of b.
+pub fn left_over(pool: &[u8], a: RangeSet, b: RangeSet) -> MaybeSet
+    ensures { λ r. ⌜ asSets r ≡ leftOver (now (pool .entry)) a b ⌝ }
+{
+    if is_before(pool, a, b) {
+        return MaybeSet::Set(a);
+    }
+    if is_before(pool, b, a) {
+        return MaybeSet::NoSet;
+    }
+    left_part(pool, a, b)
+}
+
+// What of a starts below b, up to b's start.
+fn left_part(pool: &[u8], a: RangeSet, b: RangeSet) -> MaybeSet
+    ensures { λ r. ⌜ asSets r ≡ leftPart (now (pool .entry)) a b ⌝ }
+{
+    let start = a.start;
+    let stop = b.start;
+    if is_less(compare_in(pool, start, stop)) {
+        return MaybeSet::Set(RangeSet {
+            start,
+            end: invert_in(stop, false),
+        });
+    }
+    MaybeSet::NoSet
+}
+
+// inner: what of a stands right of b.
+pub fn right_over(pool: &[u8], a: RangeSet, b: RangeSet) -> MaybeSet
+    ensures { λ r. ⌜ asSets r ≡ rightOver (now (pool .entry)) a b ⌝ }
+{
+    if is_before(pool, a, b) {
+        return MaybeSet::NoSet;
+    }
+    if is_before(pool, b, a) {
+        return MaybeSet::Set(a);
+    }
+    right_part(pool, a, b)
+}
+
+// What of a ends above b, from b's end on.
+fn right_part(pool: &[u8], a: RangeSet, b: RangeSet) -> MaybeSet
+    ensures { λ r. ⌜ asSets r ≡ rightPart (now (pool .entry)) a b ⌝ }
+{
+    let from = b.end;
+    let end = a.end;
+    if is_less(compare_in(pool, from, end)) {
+        return MaybeSet::Set(RangeSet {
+            start: invert_in(from, true),
+            end,
+        });
+    }
+    MaybeSet::NoSet
+}
+
+// inner: left_over of an upright b, where it is known whether a stands before it: a that starts past b has no part below it anyway.
+pub fn left_by(pool: &[u8], first: bool, a: RangeSet, b: RangeSet) -> MaybeSet
+    ensures { λ r. ⌜ asSets r ≡ cond first (a ∷ []) (leftPart (now (pool .entry)) a b) ⌝ }
+{
+    if first {
+        return MaybeSet::Set(a);
+    }
+    left_part(pool, a, b)
+}

@@ -1,0 +1,53 @@
+-- Worked lists, by computation. Assumes nothing.
+use mathlib.Core.Path.{_≡_, refl}
+use mathlib.Core.Bool.{true, false}
+use mathlib.Core.List.{List, [], _∷_}
+use native.Mathlib.Omega.{arith}
+use Rattle.intervals.specs.Lists.{meetsOf, sharedOf, cutsOf, withoutOf}
+use Rattle.intervals.specs.Intervals.{Interval, Strict, Canonical, inside, holds, piece, meet, shared, cut, without}
+use Rattle.intervals.proofs.Laws.{sweepFrom, sweepOf, stripFrom, stripOf, sweep, strip, joinFrom, join}
+
+abbrev left : List Interval
+left = (0, 10) ∷ (10, 20) ∷ (30, 40) ∷ []
+
+abbrev right : List Interval
+right = (5, 10) ∷ (12, 14) ∷ (18, 33) ∷ []
+
+-- a strict list may touch, as at 10, and a canonical one may not
+left-strict : Strict left
+left-strict = (omega arith, omega arith, (omega arith, omega arith, (omega arith, omega arith, tt)))
+
+left-not-canonical : Canonical left → ⊥
+left-not-canonical h = omega arith
+
+right-canonical : Canonical right
+right-canonical = (omega arith, omega arith, (omega arith, omega arith, (omega arith, omega arith, tt)))
+
+-- an interval holds its start and not its end
+holds-start : holds right 5 ≡ true
+unfolding holds inside
+holds-start = refl
+
+holds-end : holds right 10 ≡ false
+unfolding holds inside
+holds-end = refl
+
+shared-left-right : shared left right ≡ (5, 10) ∷ (12, 14) ∷ (18, 20) ∷ (30, 33) ∷ []
+unfolding sharedOf meetsOf meet piece
+shared-left-right = refl
+
+sweep-left-right : sweep left right ≡ (5, 10) ∷ (12, 14) ∷ (18, 20) ∷ (30, 33) ∷ []
+unfolding sweepOf sweepFrom meet piece
+sweep-left-right = refl
+
+without-left-right : without left right ≡ (0, 5) ∷ (10, 12) ∷ (14, 18) ∷ (33, 40) ∷ []
+unfolding withoutOf cutsOf cut piece
+without-left-right = refl
+
+strip-left-right : strip left right ≡ (0, 5) ∷ (10, 12) ∷ (14, 18) ∷ (33, 40) ∷ []
+unfolding stripOf stripFrom piece
+strip-left-right = refl
+
+join-left : join left ≡ (0, 20) ∷ (30, 40) ∷ []
+unfolding join joinFrom
+join-left = refl

@@ -1,0 +1,112 @@
+-- Each law that a caller cites, in the order of specs/. Those over things of any type, and those of pieces and of `++`, are
+-- stated in the files that the `pub use` lines name, and passed on. No contract cites this file. Assumes nothing.
+use Prim.Native.Nat.{ℕ}
+use mathlib.Core.Path.{_≡_, refl, sym}
+use mathlib.Core.Bool.{_&&_, not, and-true, and-or-distrib-right}
+use mathlib.Core.List.{List, [], _∷_}
+use native.Mathlib.Omega.{arith}
+use Rattle.intervals.specs.Lists.{sharedOf, withoutOf}
+use Rattle.intervals.specs.Intervals.{Interval, Above, Strict, Canonical, inside, holds, shared, without}
+use Rattle.intervals.proofs.Pieces.{meets, cuts}
+use Rattle.intervals.proofs.Ordered.{apart→above, shared-above, without-above}
+use Rattle.intervals.proofs.Algebra.{meets-shared, shared-cons, without-cuts}
+use Rattle.intervals.proofs.Members.{holds-meets, holds-cuts, and-nor, either-way, never-both}
+use Rattle.intervals.proofs.Unique.{apart-unique}
+use Rattle.intervals.proofs.Joined.{holds-join-from, join-from-apart}
+use Rattle.intervals.proofs.Passes.{interval-above, meeting, cutting}
+pub use Rattle.intervals.proofs.Lists.{meets-append, shared-append, shared-nil}
+pub use Rattle.intervals.proofs.Lists.{cuts-append, without-append, without-nil}
+pub use Rattle.intervals.proofs.Lists.{All, all-append, all-shared, all-without, map-shared, map-without}
+unfoldable pub use Rattle.intervals.proofs.Sweeps.{sweepFrom, sweepOf, stripFrom, stripOf}
+pub use Rattle.intervals.proofs.Sweeps.{AboveOf, BelowOf, Spanned, Meeting, Cutting}
+pub use Rattle.intervals.proofs.Sweeps.{sweep-first, sweep-second, sweep-nil, sweep-is-shared, sweep-skip}
+pub use Rattle.intervals.proofs.Sweeps.{strip-first, strip-second, strip-nil, strip-is-without, strip-skip, above-le}
+pub use Rattle.intervals.proofs.Pieces.{piece-some, piece-none}
+pub use Rattle.intervals.proofs.Members.{holds-append, holds-piece, Parts}
+pub use Rattle.intervals.proofs.Passes.{sweep, strip}
+pub use Rattle.intervals.proofs.Joined.{Rising}
+unfoldable pub use Rattle.intervals.proofs.Joined.{joinFrom, join}
+
+-- ---- strict and canonical lists
+
+pub canonical→strict : (A : List Interval) → Canonical A → Strict A
+canonical→strict A = apart→above 0 A
+
+pub canonical-unique : (A B : List Interval) → Canonical A → Canonical B → ((x : ℕ) → holds A x ≡ holds B x) → A ≡ B
+canonical-unique A B = apart-unique 0 0 A B
+
+-- ---- what two lists share
+
+pub shared-strict : (A B : List Interval) → Strict A → Strict B → Strict (shared A B)
+shared-strict A B = shared-above 0 0 A B
+
+pub holds-shared : (A B : List Interval) (x : ℕ) → holds (shared A B) x ≡ holds A x && holds B x
+unfolding holds sharedOf
+holds-shared [] B x = refl
+holds-shared (a ∷ A) B x = rw (
+  holds-append (meets a B) (shared A B) x,
+  holds-meets a B x,
+  holds-shared A B x,
+  and-or-distrib-right (inside (a .0) (a .1) x) (holds A x) (holds B x),
+)
+
+pub shared-comm : (A B : List Interval) → Strict A → Strict B → shared A B ≡ shared B A
+unfolding sharedOf
+shared-comm A B hA hB = go 0 A hA
+  where
+    go : (lo : ℕ) (A : List Interval) → Above lo A → shared A B ≡ shared B A
+    go lo [] hA = sym (shared-nil _ B)
+    go lo (a ∷ A) hA = rw (go (a .1) A (hA .2)) (sym (shared-cons lo 0 a A B hA hB))
+
+pub shared-assoc : (A B C : List Interval) → shared (shared A B) C ≡ shared A (shared B C)
+unfolding sharedOf
+shared-assoc [] B C = refl
+shared-assoc (a ∷ A) B C = rw (shared-append _ (meets a B) (shared A B) C, shared-assoc A B C, meets-shared a B C)
+
+pub interval-sweep-is-shared : (A B : List Interval) → Strict A → Strict B → sweep A B ≡ shared A B
+interval-sweep-is-shared A B hA hB = sweep-is-shared meeting A B (interval-above 0 A hA) (interval-above 0 B hB)
+
+-- ---- what a list keeps without another
+
+pub without-strict : (A B : List Interval) → Strict A → Strict B → Strict (without A B)
+without-strict A B = without-above 0 0 A B
+
+pub holds-without : (A B : List Interval) (x : ℕ) → holds (without A B) x ≡ holds A x && not (holds B x)
+unfolding holds withoutOf
+holds-without A [] x = sym (and-true (holds A x))
+holds-without A (b ∷ B) x = rw (
+  holds-without (cuts A b) B x,
+  holds-cuts A b x,
+  and-nor (holds A x) (inside (b .0) (b .1) x) (holds B x),
+)
+
+-- what is taken away may be taken away in either order
+pub without-swap : (A B C : List Interval) → Strict B → Strict C → without (without A B) C ≡ without (without A C) B
+unfolding withoutOf
+without-swap A B C hB hC = go 0 A C hC
+  where
+    go : (lo : ℕ) (A C : List Interval) → Above lo C → without (without A B) C ≡ without (without A C) B
+    go lo A [] hC = refl
+    go lo A (c ∷ C) hC = rw (← without-cuts 0 A B c hB (hC .1)) (go (c .1) (cuts A c) C (hC .2))
+
+pub interval-strip-is-without : (A B : List Interval) → Strict A → Strict B → strip A B ≡ without A B
+interval-strip-is-without A B hA hB = strip-is-without cutting A B (interval-above 0 A hA) (interval-above 0 B hB)
+
+-- every number of A is in exactly one of the two, and no other number is in either
+pub parts : (A B : List Interval) → Parts A (shared A B) (without A B)
+parts A B = record {
+  all = λ x. rw (holds-shared A B x, holds-without A B x) (either-way (holds A x) (holds B x));
+  once = λ x. rw (holds-shared A B x, holds-without A B x) (never-both (holds A x) (holds B x));
+}
+
+-- ---- intervals whose starts rise, joined
+
+pub join-canonical : (A : List Interval) → Rising 0 A → Canonical (join A)
+unfolding join
+join-canonical [] h = tt
+join-canonical (a ∷ A) h = join-from-apart (a .0) 0 (a .0) (a .1) A (omega arith) (h .1) (omega arith) (h .2)
+
+pub holds-join : (A : List Interval) → Rising 0 A → (x : ℕ) → holds (join A) x ≡ holds A x
+unfolding join holds
+holds-join [] h x = refl
+holds-join (a ∷ A) h x = holds-join-from (a .0) (a .0) (a .1) A x (omega arith) (h .2)

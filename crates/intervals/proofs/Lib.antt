@@ -1,0 +1,11 @@
+pub mod Laws
+pub mod Lists
+pub mod Sweeps
+pub mod Pieces
+pub mod Passes
+pub mod Ordered
+pub mod Algebra
+pub mod Members
+pub mod Unique
+pub mod Joined
+mod Examples

@@ -1,0 +1,57 @@
+-- What `piece` is, by the order of its two numbers, and what a piece, which may be empty, shares and keeps. Assumes nothing.
+use Prim.Native.Nat.{ℕ, _≤_, _<_, min, max}
+use mathlib.Core.Path.{_≡_, refl}
+use mathlib.Core.List.{List, [], _∷_, append-nil}
+use native.Mathlib.Decide.{decLt}
+use native.Mathlib.Omega.{arith}
+use borrow.Author.Tests.{lt-ltb, le-ltb}
+use Rattle.intervals.specs.Lists.{meetsOf, sharedOf, cutsOf}
+use Rattle.intervals.specs.Intervals.{Interval, piece, meet, shared, cut}
+
+-- `meetsOf` and `cutsOf` of intervals
+
+abbrev pub meets : Interval → List Interval → List Interval
+meets = meetsOf meet
+
+abbrev pub cuts : List Interval → Interval → List Interval
+cuts = cutsOf cut
+
+module _ (s e : ℕ) where
+  pub piece-some : s < e → piece s e ≡ (s, e) ∷ []
+  unfolding piece
+  piece-some h = rw (lt-ltb s e h)
+
+  pub piece-none : e ≤ s → piece s e ≡ []
+  unfolding piece
+  piece-none h = rw (le-ltb s e h)
+
+-- ---- a piece met, and a piece cut
+
+meets-empty : (a : Interval) (B : List Interval) → a .1 ≤ a .0 → meets a B ≡ []
+unfolding meetsOf meet
+meets-empty a [] h = refl
+meets-empty a (b ∷ B) h = rw (piece-none (max (a .0) (b .0)) (min (a .1) (b .1)) (omega arith)) (meets-empty a B h)
+
+module _ (s e : ℕ) where
+  pub shared-piece : (B : List Interval) → shared (piece s e) B ≡ meets (s, e) B
+  unfolding sharedOf
+  shared-piece B = elim (decLt s e) [
+    | yes h ↦ rw (piece-some s e h, append-nil)
+    | no h ↦ rw (piece-none s e (omega arith), meets-empty (s, e) B (omega arith))
+  ]
+
+  pub meets-piece : (a : Interval) → meets a (piece s e) ≡ piece (max (a .0) s) (min (a .1) e)
+  unfolding meetsOf meet
+  meets-piece a = elim (decLt s e) [
+    | yes h ↦ rw (piece-some s e h, append-nil)
+    | no h ↦ rw (piece-none s e (omega arith), piece-none (max (a .0) s) (min (a .1) e) (omega arith))
+  ]
+
+  pub cuts-piece : (b : Interval) → cuts (piece s e) b ≡ cut (s, e) b
+  unfolding cutsOf cut
+  cuts-piece b = elim (decLt s e) [
+    | yes h ↦ rw (piece-some s e h, append-nil)
+    | no h ↦
+        let p : piece s e ≡ [] = piece-none s e (omega arith) in
+        rw (p, piece-none s (min e (b .0)) (omega arith), piece-none (max s (b .1)) e (omega arith))
+  ]

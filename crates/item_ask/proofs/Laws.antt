@@ -1,0 +1,6 @@
+-- Each law that a caller cites. It is stated in the file that the line names, and passed on. Assumes nothing.
+
+-- where a direction is answered no, no key that the item holds stands there
+pub use Rattle.item_ask.proofs.Directions.{no-left, no-right}
+-- an answer's numbers and values tell its cases apart
+pub use Rattle.item_ask.proofs.Apart.{containment-apart, direction-apart, range-apart, item-apart}

@@ -1,0 +1,3 @@
+pub mod Directions
+pub mod Apart
+pub mod Laws

@@ -1,0 +1,113 @@
+-- What the check of a list accepts: whole items, not too many, each of which is sound, in order. Assumes nothing.
+use Prim.Native.Nat.{ℕ, zero, suc, _/_, _%_, _≤_}
+use mathlib.Core.Path.{_≡_, refl, sym}
+use mathlib.Core.Bool.{Bool, true, false, not, cond, _||_, true≢false}
+use mathlib.Core.List.{List, [], _∷_}
+use mathlib.Core.Logic.{_↔_}
+use lib.ListN.{length}
+use lib.Dec.{eqb, ltb}
+use borrow.Author.Tests.{ltb-false, le-ltb, eqb-true, eq-eqb, not-false}
+use Rattle.key_order.specs.Order.{isLess}
+use Rattle.query_item.specs.declared.ItemWords.{ItemWords}
+use Rattle.query_item.specs.declared.RangeSetItem.{RangeSetItem}
+use Rattle.query_item.specs.Items.{itemSize}
+use Rattle.query_item.specs.Boundaries.{compareIn, rangeOf}
+use Rattle.item_check.specs.Checks.{Verdict, answered, refused, accepted, andThen, mostItems, mostPool, uprightFault, faultAt, poolVerdict, shapeVerdict, firstBad, firstBreak, strictVerdict, itemsOf, wholeVerdict, listVerdict}
+
+-- each item is sound: nothing of 1, 2, 3 is wrong with it
+abbrev pub AllSound : List ℕ → List ItemWords → Type 0
+AllSound pool [] = Unit {0}
+AllSound pool (it ∷ its) = (uprightFault pool it ≡ 0) × AllSound pool its
+
+-- each item starts above the end of the one before it, the first above e
+abbrev pub Following : List ℕ → RangeSetItem → List ItemWords → Type 0
+Following pool e [] = Unit {0}
+Following pool e (it ∷ its) = (isLess (compareIn pool e (rangeOf it .start)) ≡ true) × Following pool (rangeOf it .end) its
+
+abbrev pub InOrder : List ℕ → List ItemWords → Type 0
+InOrder pool [] = Unit {0}
+InOrder pool (it ∷ its) = Following pool (rangeOf it .end) its
+
+-- what a user of an accepted list has
+pub record AcceptedList (pool ws : List ℕ) : Type 0 where
+  pub whole : length ws % itemSize ≡ 0
+  pub few : length ws / itemSize ≤ mostItems
+  pub sound : AllSound pool (itemsOf ws)
+  pub in-order : InOrder pool (itemsOf ws)
+
+-- ---- both checks pass exactly where both do
+
+pub accepts : (v w : Verdict) → andThen v w ≡ accepted ↔ ((v ≡ accepted) × (w ≡ accepted))
+accepts (answered u) w = (λ e. (refl, e), λ e. e .1)
+accepts (refused n s i) w = (λ e. (e, cc), λ e. e .0)
+
+fault-passes : (f side i : ℕ) → faultAt f side i ≡ accepted ↔ f ≡ 0
+fault-passes zero side i = (λ e. refl, λ e. refl)
+fault-passes (suc f) side i = (λ e. cc, λ e. cc)
+
+tested : (t : Bool) (v : Verdict) (n s i : ℕ) → cond t v (refused n s i) ≡ accepted ↔ ((t ≡ true) × (v ≡ accepted))
+tested true v n s i = (λ e. (refl, e), λ e. e .1)
+tested false v n s i = (λ e. (cc, cc), λ e. absurd (true≢false (sym (e .0))))
+
+refuses : (t : Bool) (n s i : ℕ) → cond t (refused n s i) accepted ≡ accepted ↔ t ≡ false
+refuses true n s i = (λ e. cc, λ e. cc)
+refuses false n s i = (λ e. refl, λ e. refl)
+
+pub or-false : (p q : Bool) → p || q ≡ false ↔ ((p ≡ false) × (q ≡ false))
+or-false true q = (λ e. absurd (true≢false e), λ e. e .0)
+or-false false q = (λ e. (refl, e), λ e. e .1)
+
+-- ---- a list
+
+module _ (pool : List ℕ) (side : ℕ) where
+  items-pass : (i : ℕ) (its : List ItemWords) → firstBad pool side i its ≡ accepted ↔ AllSound pool its
+  unfolding firstBad
+  items-pass i [] = (λ e. tt, λ e. refl)
+  items-pass i (it ∷ its) =
+      let both = accepts (faultAt (uprightFault pool it) side i) (firstBad pool side (suc i) its) in
+      let one = fault-passes (uprightFault pool it) side i in
+      let rest = items-pass (suc i) its in
+      (λ e. let b = both .0 e in (one .0 (b .0), rest .0 (b .1)), λ e. both .1 (one .1 (e .0), rest .1 (e .1)))
+
+  following-pass : (i : ℕ) (e : RangeSetItem) (its : List ItemWords) → firstBreak pool side i e its ≡ accepted ↔ Following pool e its
+  unfolding firstBreak
+  following-pass i e [] = (λ p. tt, λ p. refl)
+  following-pass i e (it ∷ its) =
+      let both = tested (isLess (compareIn pool e (rangeOf it .start))) (firstBreak pool side (suc i) (rangeOf it .end) its) 4 side i in
+      let rest = following-pass (suc i) (rangeOf it .end) its in
+      (λ p. let b = both .0 p in (b .0, rest .0 (b .1)), λ p. both .1 (p .0, rest .1 (p .1)))
+
+  order-passes : (its : List ItemWords) → strictVerdict pool side its ≡ accepted ↔ InOrder pool its
+  unfolding strictVerdict
+  order-passes [] = (λ p. tt, λ p. refl)
+  order-passes (it ∷ its) = following-pass 1 (rangeOf it .end) its
+
+  module _ (ws : List ℕ) where
+    shape-passes : shapeVerdict ws side ≡ accepted ↔ ((length ws % itemSize ≡ 0) × (length ws / itemSize ≤ mostItems))
+    shape-passes =
+        let one = refuses (not (eqb (length ws % itemSize) 0) || ltb mostItems (length ws / itemSize)) 1 side 0 in
+        let both = or-false (not (eqb (length ws % itemSize) 0)) (ltb mostItems (length ws / itemSize)) in (
+          λ e. let b = both .0 (one .0 e) in (eqb-true _ 0 (not-false _ (b .0)), ltb-false _ _ (b .1)),
+          λ p. one .1 (both .1 (rw (eq-eqb _ 0 (p .0)), le-ltb _ _ (p .1))),
+        )
+
+    pub accepted-list : listVerdict pool ws side ≡ accepted ↔ AcceptedList pool ws
+    accepted-list =
+        let shape = accepts (shapeVerdict ws side) (wholeVerdict pool ws side) in
+        let body = accepts (firstBad pool side 0 (itemsOf ws)) (strictVerdict pool side (itemsOf ws)) in (
+          λ e.
+              let s = shape .0 e in
+              let b = body .0 (s .1) in
+              record {
+                whole = shape-passes .0 (s .0) .0;
+                few = shape-passes .0 (s .0) .1;
+                sound = items-pass 0 (itemsOf ws) .0 (b .0);
+                in-order = order-passes (itemsOf ws) .0 (b .1);
+              },
+          λ a. shape .1 (shape-passes .1 (a .whole, a .few), body .1 (items-pass 0 (itemsOf ws) .1 (a .sound), order-passes (itemsOf ws) .1 (a .in-order))),
+        )
+
+pub pool-passes : (pool : List ℕ) → poolVerdict pool ≡ accepted ↔ length pool ≤ mostPool
+pool-passes pool =
+    let one = refuses (ltb mostPool (length pool)) 1 0 0 in
+    (λ e. ltb-false _ _ (one .0 e), λ h. one .1 (le-ltb _ _ h))

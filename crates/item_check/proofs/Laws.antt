@@ -1,0 +1,8 @@
+-- Each law that a caller cites, in the order of specs/. It is stated in the file that the line names, and passed on. Assumes nothing.
+
+-- a check's numbers tell its cases apart
+pub use Rattle.item_check.proofs.Apart.{refused-apart, verdict-apart}
+-- what the check of a list accepts
+pub use Rattle.item_check.proofs.Accepted.{AllSound, Following, InOrder, AcceptedList, accepts, or-false, accepted-list, pool-passes}
+-- a list at an index
+pub use Rattle.item_check.proofs.Scans.{items-end, items-more, fault-refused}

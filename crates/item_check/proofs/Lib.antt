@@ -1,0 +1,5 @@
+pub mod Tests
+pub mod Scans
+pub mod Accepted
+pub mod Apart
+pub mod Laws

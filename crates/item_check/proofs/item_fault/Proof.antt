@@ -1,0 +1,17 @@
+-- `item_check::item_fault` meets its contract: each return is the first test that holds. Assumes nothing.
+use borrow.Author.Needs.{needs}
+use Rattle.item_check.proofs.item_fault.Statement.{statement}
+use Rattle.item_check.proofs.item_fault.Tie as tie
+
+returns : tie.Need-returns
+returns c = rw (← c .before .is-malformed .ensures, c .if1 .taken)
+
+returns-2 : tie.Need-returns-2
+returns-2 c = rw (← c .before .before .before .is-malformed .ensures, c .before .before .if1 .left, ← c .before .is-outside .ensures, c .if2 .taken)
+
+returns-3 : tie.Need-returns-3
+returns-3 c = rw (← c .before .before .before .is-malformed .ensures, c .before .before .if1 .left, ← c .before .is-outside .ensures, c .if2 .left)
+
+pub item-fault-spec : {M : Type 1} → statement M
+item-fault-spec =
+    tie.close (tie.spec (λ c κs. search needs) returns (λ c κs. search needs) returns-2 returns-3)

@@ -1,0 +1,261 @@
+// Module 2 of document 01: the refusals, and the checks of items and lists in the order that the document fixes. Every entry point of every
+// module uses these and no others. Definitions: specs/Checks.antt. Laws: proofs/Laws.antt.
+ghost use mathlib.Core.Path.{_≡_};
+ghost use Rattle.query_item.specs.Items.{itemsFrom};
+ghost use Rattle.query_item.specs.Boundaries.{setAt, upright};
+ghost use Rattle.item_check.specs.Checks.{verdictOf, refused, hasStart, hasEnd, written, malformed, keyOut, outside, itemFault, uprightFault, faultAt, poolVerdict, shapeVerdict, firstBad, strictVerdict, wholeVerdict, listVerdict, singleVerdict, keysVerdict, setVerdict, checkVerdict};
+use query_item::ItemWords;
+use query_item::KeyAt;
+use query_item::RangeSet;
+use query_item::boundary::compare_in;
+use query_item::boundary::is_at_most;
+use query_item::boundary::is_less;
+use query_item::boundary::key_of;
+use query_item::item::ITEM_SIZE;
+use query_item::item::item_at;
+use query_item::item::query_item;
+
+// A refusal: its number, the side (0 ours, 1 theirs), and the index of the item, pair or position.
+pub struct Refusal {
+    pub number: u32,
+    pub side: u32,
+    pub index: usize,
+}
+
+// What a check answers.
+pub enum Checked {
+    Accepted,
+    Refused(Refusal),
+}
+
+// The limits of document 01.
+pub const MOST_ITEMS: usize = 2048;
+
+pub const MOST_POOL: usize = 65536;
+
+pub const MOST_KEY: u32 = 255;
+
+// Whether a list can be used in the algebra: the pool, the list's shape, its items, and that it is strict.
+pub fn check_list(pool: &[u8], words: &[u32], side: u32) -> Checked
+    ensures { λ r. ⌜ verdictOf r ≡ checkVerdict (now (pool .entry)) (now (words .entry)) side ⌝ }
+{
+    match check_pool(pool) {
+        Checked::Refused(r) => Checked::Refused(r),
+        Checked::Accepted => check_words(pool, words, side),
+    }
+}
+
+// inner: the same of a list whose pool is checked already.
+pub fn check_words(pool: &[u8], words: &[u32], side: u32) -> Checked
+    ensures { λ r. ⌜ verdictOf r ≡ listVerdict (now (pool .entry)) (now (words .entry)) side ⌝ }
+{
+    match check_shape(words, side) {
+        Checked::Refused(r) => Checked::Refused(r),
+        Checked::Accepted => check_whole(pool, words, side),
+    }
+}
+
+fn check_whole(pool: &[u8], words: &[u32], side: u32) -> Checked
+    ensures { λ r. ⌜ verdictOf r ≡ wholeVerdict (now (pool .entry)) (now (words .entry)) side ⌝ }
+{
+    let count = words.len() / ITEM_SIZE;
+    match check_items(pool, words, count, side) {
+        Checked::Refused(r) => Checked::Refused(r),
+        Checked::Accepted => check_strict(pool, words, count, side),
+    }
+}
+
+// inner: refuses with a number, a side and an index.
+pub fn refuse(number: u32, side: u32, index: usize) -> Checked
+    ensures { λ r. ⌜ verdictOf r ≡ refused number side index ⌝ }
+{
+    Checked::Refused(Refusal {
+        number,
+        side,
+        index,
+    })
+}
+
+// inner: the pool's size, before everything else.
+pub fn check_pool(pool: &[u8]) -> Checked
+    ensures { λ r. ⌜ verdictOf r ≡ poolVerdict (now (pool .entry)) ⌝ }
+{
+    if MOST_POOL < pool.len() {
+        return refuse(1, 0, 0);
+    }
+    Checked::Accepted
+}
+
+// inner: the words of a list come in sixes, and are not too many.
+pub fn check_shape(words: &[u32], side: u32) -> Checked
+    ensures { λ r. ⌜ verdictOf r ≡ shapeVerdict (now (words .entry)) side ⌝ }
+{
+    if (words.len() % ITEM_SIZE != 0) | (MOST_ITEMS < words.len() / ITEM_SIZE) {
+        return refuse(1, side, 0);
+    }
+    Checked::Accepted
+}
+
+// inner: what the first bad one of the first count items is refused for: 1, 2 or 3.
+pub fn check_items(pool: &[u8], words: &[u32], count: usize, side: u32) -> Checked
+    ensures { λ r. ⌜ verdictOf r ≡ firstBad (now (pool .entry)) side 0 (itemsFrom (now (words .entry)) 0 count) ⌝ }
+{
+    let mut i: usize = 0;
+    while i < count {
+        let fault = upright_fault(pool, item_at(words, i));
+        if fault != 0 {
+            return refuse(fault, side, i);
+        }
+        i += 1;
+    }
+    Checked::Accepted
+}
+
+// inner: each of the first count items ends below the start of the next; else 4.
+pub fn check_strict(pool: &[u8], words: &[u32], count: usize, side: u32) -> Checked
+    ensures { λ r. ⌜ verdictOf r ≡ strictVerdict (now (pool .entry)) side (itemsFrom (now (words .entry)) 0 count) ⌝ }
+{
+    let mut end = set_at(words, 0).end;
+    let mut i: usize = 1;
+    while i < count {
+        let set = set_at(words, i);
+        let start = set.start;
+        if !is_less(compare_in(pool, end, start)) {
+            return refuse(4, side, i);
+        }
+        end = set.end;
+        i += 1;
+    }
+    Checked::Accepted
+}
+
+// inner: the two boundaries of the item at an index.
+pub fn set_at(words: &[u32], i: usize) -> RangeSet
+    ensures { λ r. ⌜ r ≡ setAt (now (words .entry)) i ⌝ }
+{
+    query_item(item_at(words, i)).to_range_set()
+}
+
+// inner: what is wrong with one item, 1 or 2, and 0 for nothing.
+pub fn item_fault(pool: &[u8], item: ItemWords) -> u32
+    ensures { λ r. ⌜ r ≡ itemFault (now (pool .entry)) item ⌝ }
+{
+    if is_malformed(item) {
+        return 1;
+    }
+    if is_outside(pool, item) {
+        return 2;
+    }
+    0
+}
+
+// inner: what is wrong with an item that has to be upright: 1, 2 or 3, and 0 for nothing.
+pub fn upright_fault(pool: &[u8], item: ItemWords) -> u32
+    ensures { λ r. ⌜ r ≡ uprightFault (now (pool .entry)) item ⌝ }
+{
+    if is_malformed(item) {
+        return 1;
+    }
+    if is_outside(pool, item) {
+        return 2;
+    }
+    if is_upright(pool, query_item(item).to_range_set()) {
+        return 0;
+    }
+    3
+}
+
+// inner: whether a range's start is not above its end.
+pub fn is_upright(pool: &[u8], set: RangeSet) -> bool
+    ensures { λ r. ⌜ r ≡ upright (now (pool .entry)) set ⌝ }
+{
+    let start = set.start;
+    let end = set.end;
+    is_at_most(compare_in(pool, start, end))
+}
+
+fn has_start(code: u32) -> bool
+    ensures { λ r. ⌜ r ≡ hasStart code ⌝ }
+{
+    !((code == 3) | (code == 5) | (code == 6))
+}
+
+fn has_end(code: u32) -> bool
+    ensures { λ r. ⌜ r ≡ hasEnd code ⌝ }
+{
+    !((code == 0) | (code == 3) | (code == 4) | (code == 7))
+}
+
+fn is_written(key: KeyAt) -> bool
+    ensures { λ r. ⌜ r ≡ written key ⌝ }
+{
+    (key.offset != 0) | (key.length != 0)
+}
+
+// Code or wrapper unknown, or words of an absent key that are not 0.
+fn is_malformed(item: ItemWords) -> bool
+    ensures { λ r. ⌜ r ≡ malformed item ⌝ }
+{
+    let start = item.start;
+    let end = item.end;
+    (9 < item.code)
+        | (3 < item.wrapper)
+        | (!has_start(item.code) & is_written(start))
+        | (!has_end(item.code) & is_written(end))
+}
+
+// Too long, or reaching past the pool.
+fn is_out(pool: &[u8], key: KeyAt) -> bool
+    ensures { λ r. ⌜ r ≡ keyOut (now (pool .entry)) key ⌝ }
+{
+    (MOST_KEY < key.length) | (pool.len() < key.offset as usize + key.length as usize)
+}
+
+fn is_outside(pool: &[u8], item: ItemWords) -> bool
+    ensures { λ r. ⌜ r ≡ outside (now (pool .entry)) item ⌝ }
+{
+    let start = item.start;
+    let end = item.end;
+    (has_start(item.code) & is_out(pool, start)) | (has_end(item.code) & is_out(pool, end))
+}
+
+// inner: a single item: the pool, then 1 and 2.
+pub fn check_item(pool: &[u8], item: ItemWords) -> Checked
+    ensures { λ r. ⌜ verdictOf r ≡ singleVerdict (now (pool .entry)) item ⌝ }
+{
+    match check_pool(pool) {
+        Checked::Refused(r) => Checked::Refused(r),
+        Checked::Accepted => check_fault(item_fault(pool, item), 0, 0),
+    }
+}
+
+// inner: refuses with the number of a fault, and accepts where that is 0.
+pub fn check_fault(fault: u32, side: u32, index: usize) -> Checked
+    ensures { λ r. ⌜ verdictOf r ≡ faultAt fault side index ⌝ }
+{
+    if fault == 0 {
+        return Checked::Accepted;
+    }
+    refuse(fault, side, index)
+}
+
+// inner: two boundaries: the pool, then 2 for their keys.
+pub fn check_set(pool: &[u8], set: RangeSet) -> Checked
+    ensures { λ r. ⌜ verdictOf r ≡ setVerdict (now (pool .entry)) set ⌝ }
+{
+    match check_pool(pool) {
+        Checked::Refused(r) => Checked::Refused(r),
+        Checked::Accepted => check_keys(pool, set),
+    }
+}
+
+fn check_keys(pool: &[u8], set: RangeSet) -> Checked
+    ensures { λ r. ⌜ verdictOf r ≡ keysVerdict (now (pool .entry)) set ⌝ }
+{
+    let start = set.start;
+    let end = set.end;
+    if is_out(pool, key_of(start)) | is_out(pool, key_of(end)) {
+        return refuse(2, 0, 0);
+    }
+    Checked::Accepted
+}

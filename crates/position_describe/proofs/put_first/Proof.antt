@@ -1,0 +1,36 @@
+-- `put_first` meets its contract. Assumes nothing.
+use mathlib.Core.Path.{sym}
+use native.Mathlib.Omega.{arith}
+use denote.Ref.{now}
+use borrow.Author.Tests.{lt-ltb, le-ltb}
+use Rattle.position_describe.specs.Text.{decimal, firstWord, firstPart}
+use Rattle.position_describe.proofs.Laws.{stored-then, stored-none}
+use borrow.Author.Needs.{needs}
+use Rattle.position_describe.proofs.put_first.Statement.{statement}
+use Rattle.position_describe.proofs.put_first.Tie as tie
+
+returns : tie.Need-returns
+unfolding firstPart
+returns c =
+    let a = c .before .before .before .before .before .before .before .before .before .before .before .args in
+    let t = c .before .before .before .before .before .before .put-text in
+    let n = c .before .before .put-number in
+    rw (lt-ltb (a .count) (a .total) (c .before .before .before .before .before .before .before .before .before .if1 .taken))
+    (stored-then (a .write) (now (a .out)) (t .last .0) (n .last .0) (a .at) (t .result) (n .result) firstWord (decimal (a .count)) (t .ensures .1) (t .ensures .0) (n .ensures .1) (n .ensures .0))
+
+returns-2 : tie.Need-returns-2
+unfolding firstPart
+returns-2 c =
+    let a = c .before .before .args in
+    rw (le-ltb (a .count) (a .total) (c .if1 .left)) (omega arith, sym (stored-none (a .write) (now (a .out)) (a .at)))
+
+pub put-first-spec : {M : Type 1} → statement M
+put-first-spec =
+    tie.close
+    (tie.spec
+    (λ c. search needs)
+    (λ c κs. search needs)
+    (λ c κs. search needs)
+    (λ c. search needs)
+    returns
+    returns-2)

@@ -1,0 +1,20 @@
+-- `put_later` meets its contract. Assumes nothing.
+use mathlib.Core.List.{_∷_, []}
+use denote.Ref.{now}
+use Rattle.position_describe.specs.Text.{decimal}
+use Rattle.position_describe.proofs.Laws.{stored-then}
+use borrow.Author.Needs.{needs}
+use Rattle.position_describe.proofs.put_later.Statement.{statement}
+use Rattle.position_describe.proofs.put_later.Tie as tie
+
+returns : tie.Need-returns
+returns c =
+    let a = c .before .before .before .before .before .before .before .before .before .before .args in
+    let t = c .before .before .before .before .before .before .put-text in
+    let n = c .before .before .put-number in
+    stored-then (a .write) (now (a .out)) (t .last .0) (n .last .0) (a .at) (t .result) (n .result) (44 ∷ 32 ∷ []) (decimal (a .p)) (t .ensures .1) (t .ensures .0) (n .ensures .1) (n .ensures .0)
+
+pub put-later-spec : {M : Type 1} → statement M
+put-later-spec =
+    tie.close
+    (tie.spec (λ c. search needs) (λ c κs. search needs) (λ c κs. search needs) (λ c. search needs) returns)

@@ -1,0 +1,21 @@
+-- `check_proved` meets its contract: the intervals, then the positions. Assumes nothing.
+use borrow.Author.Needs.{needs}
+use Rattle.position_intervals.proofs.given.check_proved.Statement.{statement}
+use Rattle.position_intervals.proofs.given.check_proved.Tie as tie
+
+returns : tie.Need-returns
+returns c = rw (← c .before .before .before .check-intervals .ensures, c .before .r .given .1)
+
+returns-2 : tie.Need-returns-2
+returns-2 c = rw (← c .before .before .before .check-intervals .ensures, c .before .enum-told .given .1) (c .check-ascending .ensures)
+
+pub check-proved-spec : {M : Type 1} → statement M
+check-proved-spec =
+    tie.close
+    (tie.spec
+    (λ c κs. search needs)
+    (λ c. search needs)
+    (λ c. search needs)
+    (λ c κs. search needs)
+    returns
+    returns-2)

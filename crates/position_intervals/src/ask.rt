@@ -1,0 +1,78 @@
+// What intervals are asked: whether they hold a position, how many they hold, whether they hold none.
+ghost use mathlib.Core.Path.{_≡_};
+ghost use lib.ListN.{length};
+ghost use Rattle.intervals.specs.Intervals.{holds};
+ghost use Rattle.position_intervals.specs.Given.{intervalsOf};
+ghost use Rattle.position_intervals.specs.Inner.{Sound};
+ghost use Rattle.position_intervals.specs.Reports.{positionsOf, yesOrNoOf, lengthOf, containsAnswer, lenAnswer, isEmptyAnswer};
+use crate::Length;
+use crate::LogPosition;
+use crate::RowCount;
+use crate::YesOrNo;
+use crate::given::check_intervals;
+use item_check::Checked;
+
+// Whether a position lies in one of the intervals.
+pub fn contains(intervals: &[u64], position: LogPosition) -> YesOrNo
+    ensures { λ r. ⌜ yesOrNoOf r ≡ containsAnswer (now (intervals .entry)) (position .0) ⌝ }
+{
+    match check_intervals(intervals) {
+        Checked::Refused(r) => YesOrNo::Refused(r),
+        Checked::Accepted => YesOrNo::Is(in_one_of(intervals, position)),
+    }
+}
+
+// The same of canonical intervals: asks one half of them, the one that starts at or below the position where there is a choice.
+fn in_one_of(intervals: &[u64], position: LogPosition) -> bool
+    requires { ⌜ Sound (now intervals) ⌝ }
+    ensures { λ r. ⌜ r ≡ holds (intervalsOf (now (intervals .entry))) (position .0) ⌝ }
+{
+    let len = intervals.len();
+    if len == 0 {
+        return false;
+    }
+    let p = position.0;
+    if len == 2 {
+        return (intervals[0] <= p) & (p < intervals[1]);
+    }
+    let cut = 2 * (len / 4);
+    if p < intervals[cut] {
+        return in_one_of(&intervals[..cut], position);
+    }
+    in_one_of(&intervals[cut..], position)
+}
+
+// How many positions are covered.
+pub fn len(intervals: &[u64]) -> Length
+    ensures { λ r. ⌜ lengthOf r ≡ lenAnswer (now (intervals .entry)) ⌝ }
+{
+    match check_intervals(intervals) {
+        Checked::Refused(r) => Length::Refused(r),
+        Checked::Accepted => Length::Rows(RowCount(total_width(intervals))),
+    }
+}
+
+// The sum of the widths, which never passes the last end.
+fn total_width(intervals: &[u64]) -> u64
+    requires { ⌜ Sound (now intervals) ⌝ }
+    ensures { λ r. ⌜ r ≡ length (positionsOf (intervalsOf (now (intervals .entry)))) ⌝ }
+{
+    let count = intervals.len() / 2;
+    let mut total: u64 = 0;
+    let mut i: usize = 0;
+    while i < count {
+        total += intervals[2 * i + 1] - intervals[2 * i];
+        i += 1;
+    }
+    total
+}
+
+// Whether no position is covered.
+pub fn is_empty(intervals: &[u64]) -> YesOrNo
+    ensures { λ r. ⌜ yesOrNoOf r ≡ isEmptyAnswer (now (intervals .entry)) ⌝ }
+{
+    match check_intervals(intervals) {
+        Checked::Refused(r) => YesOrNo::Refused(r),
+        Checked::Accepted => YesOrNo::Is(intervals.len() == 0),
+    }
+}

@@ -1,0 +1,75 @@
+// The checks of intervals and of proved positions, in the order that document 01 fixes.
+ghost use mathlib.Core.Path.{_≡_};
+ghost use Prim.Native.Nat.{_/_};
+ghost use lib.ListN.{length};
+ghost use Rattle.item_check.specs.Checks.{verdictOf};
+ghost use Rattle.pairs_sort.specs.Pairs.{pairs};
+ghost use Rattle.position_intervals.specs.Given.{intervalsVerdict, canonicalVerdict, ascendingVerdict, provedVerdict};
+use item_check::Checked;
+use item_check::refuse;
+
+// inner: whether words are intervals: in pairs, and canonical.
+pub fn check_intervals(intervals: &[u64]) -> Checked
+    ensures { λ r. ⌜ verdictOf r ≡ intervalsVerdict (now (intervals .entry)) ⌝ }
+{
+    if intervals.len() % 2 != 0 {
+        return refuse(1, 0, 0);
+    }
+    check_canonical(intervals)
+}
+
+// Each pair is nonempty and starts above the end of the one before it; else 9. The first has none before it.
+fn check_canonical(intervals: &[u64]) -> Checked
+    ensures { λ r. ⌜ verdictOf r ≡ canonicalVerdict (pairs (now (intervals .entry)) (length (now (intervals .entry)) / 2)) ⌝ }
+{
+    let count = intervals.len() / 2;
+    if count == 0 {
+        return Checked::Accepted;
+    }
+    if intervals[1] <= intervals[0] {
+        return refuse(9, 0, 0);
+    }
+    let mut end = intervals[1];
+    let mut i: usize = 1;
+    while i < count {
+        let s = intervals[2 * i];
+        let e = intervals[2 * i + 1];
+        if !((end < s) & (s < e)) {
+            return refuse(9, 0, i);
+        }
+        end = e;
+        i += 1;
+    }
+    Checked::Accepted
+}
+
+// inner: whether the proved positions, of accepted intervals, ascend strictly.
+pub fn check_proved(intervals: &[u64], proved: &[u64]) -> Checked
+    ensures { λ r. ⌜ verdictOf r ≡ provedVerdict (now (intervals .entry)) (now (proved .entry)) ⌝ }
+{
+    match check_intervals(intervals) {
+        Checked::Refused(r) => Checked::Refused(r),
+        Checked::Accepted => check_ascending(proved),
+    }
+}
+
+// Each position is above the one before it; else 8.
+fn check_ascending(proved: &[u64]) -> Checked
+    ensures { λ r. ⌜ verdictOf r ≡ ascendingVerdict (now (proved .entry)) ⌝ }
+{
+    let count = proved.len();
+    if count == 0 {
+        return Checked::Accepted;
+    }
+    let mut last = proved[0];
+    let mut i: usize = 1;
+    while i < count {
+        let p = proved[i];
+        if p <= last {
+            return refuse(8, 1, i);
+        }
+        last = p;
+        i += 1;
+    }
+    Checked::Accepted
+}

@@ -1,0 +1,140 @@
+-- A range of a pool as an interval of ranks, at a size n that fits: the order of boundaries, upright and strict as numbers, what a range
+-- holds, and what `invert` does. Assumes nothing.
+use Prim.Native.Nat.{ℕ, _+_, _*_, _≤_, _<_}
+use mathlib.Core.Path.{_≡_, sym, ap, _∙_}
+use mathlib.Core.Bool.{Bool, true, false, _&&_}
+use mathlib.Core.List.{List}
+use native.Mathlib.Decide.{decLe}
+use native.Mathlib.Omega.{arith}
+use lib.Dec.{leb, ltb}
+use borrow.Author.Tests.{leb-true, lt-ltb, le-ltb, le-leb, lt-leb}
+use Rattle.key_order.specs.Order.{isLess, isAtMost}
+use Rattle.key_order.proofs.Line.{size, past}
+use Rattle.key_order.proofs.Numbers.{Says}
+use Rattle.key_order.proofs.Ranks.{extent, rank, keyRank, rank-bound, rank-says, boundary-less, boundary-at-most, between-rank}
+use Rattle.intervals.specs.Intervals.{Interval, inside}
+use Rattle.query_item.specs.declared.QueryItem.{QueryItem}
+use Rattle.query_item.specs.declared.QueryItem.the-variants.{
+  Key,
+  Range,
+  RangeInclusive,
+  RangeFull,
+  RangeFrom,
+  RangeTo,
+  RangeToInclusive,
+  RangeAfter,
+  RangeAfterTo,
+  RangeAfterToInclusive,
+}
+use Rattle.query_item.specs.declared.RangeSetItem.{RangeSetItem}
+use Rattle.query_item.specs.declared.RangeSetItem.the-variants.{UnboundedStart, UnboundedEnd, Inclusive, ExclusiveStart, ExclusiveEnd}
+use Rattle.query_item.specs.declared.RangeSet.{RangeSet}
+use Rattle.query_item.specs.Items.{holds}
+use Rattle.query_item.specs.Boundaries.{boundaryOf, compareIn, invertOf, toRangeSet, upright}
+use Rattle.query_item.proofs.Fits.{boundary-fits}
+use Rattle.query_item.proofs.Held.{holds-between}
+
+-- boundaries that a range can start with, and end with
+
+abbrev pub Starts : RangeSetItem → Type 0
+Starts UnboundedStart = Unit {0}
+Starts UnboundedEnd = ⊥
+Starts (Inclusive k) = Unit {0}
+Starts (ExclusiveStart k) = Unit {0}
+Starts (ExclusiveEnd k) = ⊥
+
+abbrev pub Ends : RangeSetItem → Type 0
+Ends UnboundedStart = ⊥
+Ends UnboundedEnd = Unit {0}
+Ends (Inclusive k) = Unit {0}
+Ends (ExclusiveStart k) = ⊥
+Ends (ExclusiveEnd k) = Unit {0}
+
+-- n is the pool's size, or more where an asked key is larger
+module _ (pool : List ℕ) (n : ℕ) (fits : size pool ≤ n) where
+  abbrev pub rankIn : RangeSetItem → ℕ
+  rankIn x = rank n (boundaryOf pool x)
+
+  fit : (x : RangeSetItem) → extent (boundaryOf pool x) ≤ n
+  fit x = omega (arith, boundary-fits pool x)
+
+  -- the tests of boundaries are those of their ranks
+
+  pub less-rank : (x y : RangeSetItem) → isLess (compareIn pool x y) ≡ ltb (rankIn x) (rankIn y)
+  less-rank x y = boundary-less n (boundaryOf pool x) (boundaryOf pool y) (fit x) (fit y)
+
+  pub at-most-rank : (x y : RangeSetItem) → isAtMost (compareIn pool x y) ≡ leb (rankIn x) (rankIn y)
+  at-most-rank x y = boundary-at-most n (boundaryOf pool x) (boundaryOf pool y) (fit x) (fit y)
+
+  pub rank-says-in : (x y : RangeSetItem) → Says (compareIn pool x y) (rankIn x) (rankIn y)
+  rank-says-in x y = rank-says n (boundaryOf pool x) (boundaryOf pool y) (fit x) (fit y)
+
+  -- ---- ranges
+
+  -- from the rank of the start up to and with that of the end
+  abbrev pub interval : RangeSet → Interval
+  interval a = (rankIn (a .start), rankIn (a .end) + 1)
+
+  -- a range that an item can have, upright
+  pub record Whole (a : RangeSet) : Type 0 where
+    pub starts : Starts (a .start)
+    pub ends : Ends (a .end)
+    pub straight : rankIn (a .start) ≤ rankIn (a .end)
+
+  pub item-sides : (q : QueryItem) → Starts (toRangeSet q .start) × Ends (toRangeSet q .end)
+  item-sides (Key a) = (tt, tt)
+  item-sides (Range a b) = (tt, tt)
+  item-sides (RangeInclusive a b) = (tt, tt)
+  item-sides RangeFull = (tt, tt)
+  item-sides (RangeFrom a) = (tt, tt)
+  item-sides (RangeTo b) = (tt, tt)
+  item-sides (RangeToInclusive b) = (tt, tt)
+  item-sides (RangeAfter a) = (tt, tt)
+  item-sides (RangeAfterTo a b) = (tt, tt)
+  item-sides (RangeAfterToInclusive a b) = (tt, tt)
+
+  pub upright-whole : (q : QueryItem) → upright pool (toRangeSet q) ≡ true → Whole (toRangeSet q)
+  upright-whole q u =
+      let s = item-sides q in
+      record {
+        starts = s .0;
+        ends = s .1;
+        straight = leb-true _ _ (sym (at-most-rank (toRangeSet q .start) (toRangeSet q .end)) ∙ u);
+      }
+
+  pub whole-upright : (a : RangeSet) → Whole a → upright pool a ≡ true
+  whole-upright a w = at-most-rank (a .start) (a .end) ∙ le-leb _ _ (w .straight)
+
+  -- a key is held exactly where its rank lies in the item's interval
+  pub holds-interval : (q : QueryItem) (k : List ℕ) → size k ≤ n
+      → holds pool q k ≡ inside (interval (toRangeSet q) .0) (interval (toRangeSet q) .1) (keyRank n k)
+  unfolding inside
+  holds-interval q k h =
+      holds-between pool q k
+      ∙ between-rank n _ _ k (fit (toRangeSet q .start)) (fit (toRangeSet q .end)) h
+      ∙ ap (λ (t : Bool). leb (rankIn (toRangeSet q .start)) (keyRank n k) && t) (leb-ltb (keyRank n k) (rankIn (toRangeSet q .end)))
+    where
+      leb-ltb : (x y : ℕ) → leb x y ≡ ltb x (y + 1)
+      leb-ltb x y = elim (decLe x y) [
+        | yes l ↦ le-leb x y l ∙ sym (lt-ltb x (y + 1) (omega arith))
+        | no l ↦ lt-leb x y (omega arith) ∙ sym (le-ltb x (y + 1) (omega arith))
+      ]
+
+  -- ---- a start that is not the first, inverted, ends just before it; an end that is not the last, inverted, starts just past it
+
+  pub invert-start : (t : RangeSetItem) → Starts t → 0 < rankIn t → Ends (invertOf t false) × (rankIn (invertOf t false) + 1 ≡ rankIn t)
+  invert-start UnboundedStart h l = absurd (omega arith)
+  invert-start UnboundedEnd h l = absurd h
+  invert-start (Inclusive k) h l = (tt, omega arith)
+  invert-start (ExclusiveStart k) h l = (tt, omega arith)
+  invert-start (ExclusiveEnd k) h l = absurd h
+
+  pub invert-end : (e : RangeSetItem) → Ends e → rankIn e < 3 * past n + 1 → Starts (invertOf e true) × (rankIn (invertOf e true) ≡ rankIn e + 1)
+  invert-end UnboundedStart h l = absurd h
+  invert-end UnboundedEnd h l = absurd (omega arith)
+  invert-end (Inclusive k) h l = (tt, omega arith)
+  invert-end (ExclusiveStart k) h l = absurd h
+  invert-end (ExclusiveEnd k) h l = (tt, omega arith)
+
+  pub rank-top : (x : RangeSetItem) → rankIn x ≤ 3 * past n + 1
+  rank-top x = rank-bound n (boundaryOf pool x) (fit x)

@@ -1,0 +1,7 @@
+pub mod Rungs
+pub mod Parts
+pub mod Words
+pub mod Fits
+pub mod Held
+pub mod Intervals
+pub mod Laws

@@ -1,0 +1,31 @@
+-- Words of items that are not whole: what is past the list's end reads as 0. Assumes nothing.
+use Prim.Native.Nat.{ℕ, _+_, _*_, min}
+use mathlib.Core.Path.{_≡_, sym, ap, _∙_}
+use mathlib.Core.List.{List}
+use native.Mathlib.Decide.{decLe}
+use native.Mathlib.Omega.{arith}
+use lib.ListN.{length, getD, List·getD-eq-default}
+use Rattle.query_item.specs.Items.{keyAt, itemWords, itemSize, itemAt}
+
+module _ (ws : List ℕ) (i f : ℕ) (e : f ≡ min i (length ws)) where
+  clipped : (m n k : ℕ) → m ≡ itemSize * f + k → n ≡ itemSize * i + k → getD ws m 0 ≡ getD ws n 0
+  clipped m n k p q = elim (decLe i (length ws)) [
+    | yes h ↦ let r : m ≡ n = omega arith in ap (λ (x : ℕ). getD ws x 0) r
+    | no h ↦ List·getD-eq-default ws 0 {n = m} (omega arith) ∙ sym (List·getD-eq-default ws 0 {n = n} (omega arith))
+  ]
+
+  -- an index past the list's end may be put back to the end
+  pub item-clipped :
+      itemWords (getD ws (itemSize * f) 0) (getD ws (itemSize * f + 1) 0)
+      (keyAt (getD ws (itemSize * f + 2) 0) (getD ws (itemSize * f + 3) 0))
+      (keyAt (getD ws (itemSize * f + 4) 0) (getD ws (itemSize * f + 5) 0))
+      ≡ itemAt ws i
+  unfolding itemAt
+  item-clipped = rw (
+    clipped (itemSize * f) (itemSize * i) 0 (omega arith) (omega arith),
+    clipped (itemSize * f + 1) (itemSize * i + 1) 1 (omega arith) (omega arith),
+    clipped (itemSize * f + 2) (itemSize * i + 2) 2 (omega arith) (omega arith),
+    clipped (itemSize * f + 3) (itemSize * i + 3) 3 (omega arith) (omega arith),
+    clipped (itemSize * f + 4) (itemSize * i + 4) 4 (omega arith) (omega arith),
+    clipped (itemSize * f + 5) (itemSize * i + 5) 5 (omega arith) (omega arith),
+  )

@@ -1,0 +1,19 @@
+-- `query_item::boundary::key_of` meets its contract: each arm returns its key, or the absent one. Assumes nothing.
+use borrow.Author.Needs.{needs}
+use Rattle.query_item.proofs.boundary.key_of.Statement.{statement}
+use Rattle.query_item.proofs.boundary.key_of.Tie as tie
+
+pub key-of-spec : {M : Type 1} → statement M
+key-of-spec =
+    tie.close
+    (tie.spec
+    (λ c. search needs)
+    (λ c. search needs)
+    (λ c. search needs)
+    (λ c. search needs)
+    (λ c. search needs)
+    (λ c. cc)
+    (λ c. cc)
+    (λ c. search needs)
+    (λ c. search needs)
+    (λ c. search needs))

@@ -1,0 +1,19 @@
+-- `query_item::boundary::with_key` meets its contract: each arm returns its boundary. Assumes nothing.
+use borrow.Author.Needs.{needs}
+use Rattle.query_item.proofs.boundary.with_key.Statement.{statement}
+use Rattle.query_item.proofs.boundary.with_key.Tie as tie
+
+pub with-key-spec : {M : Type 1} → statement M
+with-key-spec =
+    tie.close
+    (tie.spec
+    (λ c. search needs)
+    (λ c. search needs)
+    (λ c. search needs)
+    (λ c. search needs)
+    (λ c. search needs)
+    (λ c. search needs)
+    (λ c. search needs)
+    (λ c. cc)
+    (λ c. cc)
+    (λ c. cc))

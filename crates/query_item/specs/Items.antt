@@ -1,0 +1,117 @@
+-- Items: the keys that they name, their words and codes, and which keys they hold. Definitions only. Assumes nothing.
+use Prim.Native.Nat.{ℕ, zero, suc, _+_, _*_, _/_}
+use mathlib.Core.List.{List, [], _∷_}
+use mathlib.Core.Bool.{Bool, true, cond, _&&_}
+use lib.ListN.{length, getD, take, drop}
+use lib.Seq.{sets}
+use lib.Dec.{ltb, eqb}
+use Rattle.key_order.specs.Order.{compareKeys, isLess, isAtMost, isEqual}
+use Rattle.query_item.specs.declared.KeyAt.{KeyAt}
+use Rattle.query_item.specs.declared.ItemWords.{ItemWords}
+use Rattle.query_item.specs.declared.QueryItem.{QueryItem}
+use Rattle.query_item.specs.declared.QueryItem.the-variants.{
+  Key,
+  Range,
+  RangeInclusive,
+  RangeFull,
+  RangeFrom,
+  RangeTo,
+  RangeToInclusive,
+  RangeAfter,
+  RangeAfterTo,
+  RangeAfterToInclusive,
+}
+
+-- 01 Keys: items name keys by offset and length in one lent pool; what reaches past the pool is not there
+abbrev pub bytesOf : List ℕ → KeyAt → List ℕ
+bytesOf pool k = take (k .length) (drop (k .offset) pool)
+
+-- ---- the table of 01, a line for each code
+
+-- the item of a code, a start and an end
+abbrev pub itemOf : ℕ → KeyAt → KeyAt → QueryItem
+itemOf c a b =
+    cond (eqb c 0) (Key a)
+    (cond (eqb c 1) (Range a b)
+    (cond (eqb c 2) (RangeInclusive a b)
+    (cond (eqb c 4) (RangeFrom a)
+    (cond (eqb c 5) (RangeTo b)
+    (cond (eqb c 6) (RangeToInclusive b)
+    (cond (eqb c 7) (RangeAfter a)
+    (cond (eqb c 8) (RangeAfterTo a b)
+    (cond (eqb c 9) (RangeAfterToInclusive a b)
+    RangeFull))))))))
+
+-- the six words of an item, plain or with a wrapper; words of an absent key are 0
+abbrev pub keyAt : ℕ → ℕ → KeyAt
+keyAt o l = record { offset = o; length = l }
+
+abbrev pub absent : KeyAt
+absent = keyAt 0 0
+
+abbrev pub itemWords : ℕ → ℕ → KeyAt → KeyAt → ItemWords
+itemWords c w a b = record { code = c; wrapper = w; start = a; end = b }
+
+abbrev pub wordsOf : ℕ → QueryItem → ItemWords
+wordsOf w (Key a) = itemWords 0 w a absent
+wordsOf w (Range a b) = itemWords 1 w a b
+wordsOf w (RangeInclusive a b) = itemWords 2 w a b
+wordsOf w RangeFull = itemWords 3 w absent absent
+wordsOf w (RangeFrom a) = itemWords 4 w a absent
+wordsOf w (RangeTo b) = itemWords 5 w absent b
+wordsOf w (RangeToInclusive b) = itemWords 6 w absent b
+wordsOf w (RangeAfter a) = itemWords 7 w a absent
+wordsOf w (RangeAfterTo a b) = itemWords 8 w a b
+wordsOf w (RangeAfterToInclusive a b) = itemWords 9 w a b
+
+-- x < y and x ≤ y and x = y of keys
+abbrev pub below : List ℕ → List ℕ → Bool
+below x y = isLess (compareKeys x y)
+
+abbrev pub atMost : List ℕ → List ℕ → Bool
+atMost x y = isAtMost (compareKeys x y)
+
+abbrev pub same : List ℕ → List ℕ → Bool
+same x y = isEqual (compareKeys x y)
+
+-- which keys an item holds
+abbrev pub holds : List ℕ → QueryItem → List ℕ → Bool
+holds pool (Key a) k = same k (bytesOf pool a)
+holds pool (Range a b) k = atMost (bytesOf pool a) k && below k (bytesOf pool b)
+holds pool (RangeInclusive a b) k = atMost (bytesOf pool a) k && atMost k (bytesOf pool b)
+holds pool RangeFull k = true
+holds pool (RangeFrom a) k = atMost (bytesOf pool a) k
+holds pool (RangeTo b) k = below k (bytesOf pool b)
+holds pool (RangeToInclusive b) k = atMost k (bytesOf pool b)
+holds pool (RangeAfter a) k = below (bytesOf pool a) k
+holds pool (RangeAfterTo a b) k = below (bytesOf pool a) k && below k (bytesOf pool b)
+holds pool (RangeAfterToInclusive a b) k = below (bytesOf pool a) k && atMost k (bytesOf pool b)
+
+-- ---- lists of items as words
+
+-- 01 Items: an item is six words
+abbrev pub itemSize : ℕ
+itemSize = 6
+
+-- the item at an index; what is past the list's end reads as 0
+unfoldable pub itemAt : List ℕ → ℕ → ItemWords
+itemAt ws i =
+    itemWords (getD ws (itemSize * i) 0) (getD ws (itemSize * i + 1) 0)
+    (keyAt (getD ws (itemSize * i + 2) 0) (getD ws (itemSize * i + 3) 0))
+    (keyAt (getD ws (itemSize * i + 4) 0) (getD ws (itemSize * i + 5) 0))
+
+-- k items from index i on
+unfoldable pub itemsFrom : List ℕ → ℕ → ℕ → List ItemWords
+itemsFrom ws i zero = []
+itemsFrom ws i (suc k) = itemAt ws i ∷ itemsFrom ws (suc i) k
+
+-- wrappers are read through
+abbrev pub queryItem : ItemWords → QueryItem
+queryItem it = itemOf (it .code) (it .start) (it .end)
+
+abbrev pub flat : ItemWords → List ℕ
+flat it = it .code ∷ it .wrapper ∷ it .start .offset ∷ it .start .length ∷ it .end .offset ∷ it .end .length ∷ []
+
+-- a list of words with an item written at an index; where it has no room nothing is written
+unfoldable pub withItem : List ℕ → ℕ → ItemWords → List ℕ
+withItem ws i it = cond (ltb i (length ws / itemSize)) (sets ws (itemSize * i) (flat it)) ws

@@ -1,0 +1,109 @@
+// Items as two boundaries, and back. Items need not be upright.
+ghost use mathlib.Core.Path.{_≡_};
+ghost use Rattle.query_item.specs.Boundaries.{toRangeSet, toQueryItem, itemBetween};
+ghost use Rattle.query_item.specs.declared.RangeSetItem.the-variants.{Inclusive};
+use crate::KeyAt;
+use crate::MaybeItem;
+use crate::QueryItem;
+use crate::RangeSet;
+use crate::RangeSetItem;
+use crate::boundary::compare_keys;
+use crate::boundary::is_equal;
+
+impl QueryItem {
+    // inner: the two boundaries of an item.
+    pub fn to_range_set(self) -> RangeSet
+        ensures { λ r. ⌜ r ≡ toRangeSet self ⌝ }
+    {
+        match self {
+            QueryItem::Key(a) => RangeSet {
+                start: RangeSetItem::Inclusive(a),
+                end: RangeSetItem::Inclusive(a),
+            },
+            QueryItem::Range(a, b) => RangeSet {
+                start: RangeSetItem::Inclusive(a),
+                end: RangeSetItem::ExclusiveEnd(b),
+            },
+            QueryItem::RangeInclusive(a, b) => RangeSet {
+                start: RangeSetItem::Inclusive(a),
+                end: RangeSetItem::Inclusive(b),
+            },
+            QueryItem::RangeFull => RangeSet {
+                start: RangeSetItem::UnboundedStart,
+                end: RangeSetItem::UnboundedEnd,
+            },
+            QueryItem::RangeFrom(a) => RangeSet {
+                start: RangeSetItem::Inclusive(a),
+                end: RangeSetItem::UnboundedEnd,
+            },
+            QueryItem::RangeTo(b) => RangeSet {
+                start: RangeSetItem::UnboundedStart,
+                end: RangeSetItem::ExclusiveEnd(b),
+            },
+            QueryItem::RangeToInclusive(b) => RangeSet {
+                start: RangeSetItem::UnboundedStart,
+                end: RangeSetItem::Inclusive(b),
+            },
+            QueryItem::RangeAfter(a) => RangeSet {
+                start: RangeSetItem::ExclusiveStart(a),
+                end: RangeSetItem::UnboundedEnd,
+            },
+            QueryItem::RangeAfterTo(a, b) => RangeSet {
+                start: RangeSetItem::ExclusiveStart(a),
+                end: RangeSetItem::ExclusiveEnd(b),
+            },
+            QueryItem::RangeAfterToInclusive(a, b) => RangeSet {
+                start: RangeSetItem::ExclusiveStart(a),
+                end: RangeSetItem::Inclusive(b),
+            },
+        }
+    }
+}
+
+impl RangeSet {
+    // inner: the item of two boundaries, where there is one.
+    pub fn to_query_item(self, pool: &[u8]) -> MaybeItem
+        ensures { λ r. ⌜ r ≡ toQueryItem (now (pool .entry)) self ⌝ }
+    {
+        let start = self.start;
+        let end = self.end;
+        match start {
+            RangeSetItem::Inclusive(a) => match end {
+                RangeSetItem::Inclusive(b) => inclusive_item(pool, a, b),
+                RangeSetItem::ExclusiveEnd(b) => MaybeItem::Item(QueryItem::Range(a, b)),
+                RangeSetItem::UnboundedEnd => MaybeItem::Item(QueryItem::RangeFrom(a)),
+                RangeSetItem::UnboundedStart => MaybeItem::NoItem,
+                RangeSetItem::ExclusiveStart(_) => MaybeItem::NoItem,
+            },
+            RangeSetItem::ExclusiveStart(a) => match end {
+                RangeSetItem::Inclusive(b) => MaybeItem::Item(QueryItem::RangeAfterToInclusive(
+                    a,
+                    b,
+                )),
+                RangeSetItem::ExclusiveEnd(b) => MaybeItem::Item(QueryItem::RangeAfterTo(a, b)),
+                RangeSetItem::UnboundedEnd => MaybeItem::Item(QueryItem::RangeAfter(a)),
+                RangeSetItem::UnboundedStart => MaybeItem::NoItem,
+                RangeSetItem::ExclusiveStart(_) => MaybeItem::NoItem,
+            },
+            RangeSetItem::UnboundedStart => match end {
+                RangeSetItem::Inclusive(b) => MaybeItem::Item(QueryItem::RangeToInclusive(b)),
+                RangeSetItem::ExclusiveEnd(b) => MaybeItem::Item(QueryItem::RangeTo(b)),
+                RangeSetItem::UnboundedEnd => MaybeItem::Item(QueryItem::RangeFull),
+                RangeSetItem::UnboundedStart => MaybeItem::NoItem,
+                RangeSetItem::ExclusiveStart(_) => MaybeItem::NoItem,
+            },
+            RangeSetItem::UnboundedEnd => MaybeItem::NoItem,
+            RangeSetItem::ExclusiveEnd(_) => MaybeItem::NoItem,
+        }
+    }
+}
+
+// From a to b, both held: of equal bytes the key, with a's offset.
+fn inclusive_item(pool: &[u8], a: KeyAt, b: KeyAt) -> MaybeItem
+    ensures { λ r. ⌜ r ≡ itemBetween (now (pool .entry)) (Inclusive a) (Inclusive b) ⌝ }
+{
+    if is_equal(compare_keys(pool, a, b)) {
+        return MaybeItem::Item(QueryItem::Key(a));
+    }
+    MaybeItem::Item(QueryItem::RangeInclusive(a, b))
+}

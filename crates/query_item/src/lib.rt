@@ -1,0 +1,66 @@
+// Module 2 of document 01: items and the boundaries of their ranges, and the types of its answers. `item_check` has the refusals and the
+// checks of items and lists, `item_ask` the calls that check an item and answer.
+// Definitions: specs/Items.antt (the table), specs/Boundaries.antt (order, conversions). Laws: proofs/Laws.antt.
+//
+// A function marked "inner" is public only because other crates need it. It checks nothing: its definition covers every input.
+pub mod boundary;
+pub mod convert;
+pub mod item;
+
+// A key: a part of the pool.
+pub struct KeyAt {
+    pub offset: u32,
+    pub length: u32,
+}
+
+// The ten kinds of items.
+pub enum QueryItem {
+    Key(KeyAt),
+    Range(KeyAt, KeyAt),
+    RangeInclusive(KeyAt, KeyAt),
+    RangeFull,
+    RangeFrom(KeyAt),
+    RangeTo(KeyAt),
+    RangeToInclusive(KeyAt),
+    RangeAfter(KeyAt),
+    RangeAfterTo(KeyAt, KeyAt),
+    RangeAfterToInclusive(KeyAt, KeyAt),
+}
+
+// What a boundary is, where its key is lent as bytes beside it. An unbounded one does without a key.
+pub enum BoundaryKind {
+    UnboundedStart,
+    UnboundedEnd,
+    Inclusive,
+    ExclusiveStart,
+    ExclusiveEnd,
+}
+
+// A boundary whose key is a part of the pool.
+pub enum RangeSetItem {
+    UnboundedStart,
+    UnboundedEnd,
+    Inclusive(KeyAt),
+    ExclusiveStart(KeyAt),
+    ExclusiveEnd(KeyAt),
+}
+
+// A range by its two boundaries.
+pub struct RangeSet {
+    pub start: RangeSetItem,
+    pub end: RangeSetItem,
+}
+
+// What two boundaries make.
+pub enum MaybeItem {
+    NoItem,
+    Item(QueryItem),
+}
+
+// The six words of an item: code, wrapper, start offset, start length, end offset, end length.
+pub struct ItemWords {
+    pub code: u32,
+    pub wrapper: u32,
+    pub start: KeyAt,
+    pub end: KeyAt,
+}

@@ -1,0 +1,17 @@
+-- Every row holds: what is given computes to the document's result. Assumes nothing.
+use mathlib.Core.Path.{_≡_, refl}
+use mathlib.Core.List.{map}
+use Rattle.key_order.specs.Order.{compareNumbers, compareKeys}
+use Rattle.key_order.specs.Boundary.{compareBoundaries}
+use Rattle.query_item.specs.Items.{itemAt, itemsFrom}
+use Rattle.item_check.specs.Checks.{firstBad, firstBreak, strictVerdict}
+use Rattle.intervals.specs.Lists.{meetsOf, sharedOf, cutsOf, withoutOf}
+use Rattle.intersect.specs.Pair.{meetSets, leftOver, rightOver}
+use Rattle.intersect.specs.Lists.{convertAll, sharedItems, onlyItems, wordsAll}
+use Rattle.insert.specs.Insertion.{orderItems, sameItem, endsBelow, clashes, fateOf, staying, merged, mergedWith, placed, inserted}
+use Rattle.insert.specs.Answers.{firstClash}
+use Rattle.rows.specs.Rows.{Result, Row, rows}
+
+pub rows-hold : map {B = Result} (λ (r : Row). r .0) rows ≡ map (λ (r : Row). r .1) rows
+unfolding compareNumbers compareKeys compareBoundaries itemAt itemsFrom firstBad firstBreak strictVerdict meetsOf sharedOf cutsOf withoutOf meetSets leftOver rightOver convertAll sharedItems onlyItems wordsAll orderItems sameItem endsBelow clashes fateOf staying merged mergedWith placed inserted firstClash
+rows-hold = refl

@@ -1,0 +1,133 @@
+-- The rows of document 01, "Thirteen rows to prove": what is given, by the definitions that the calls promise, and the result that the
+-- document states. Keys are single bytes, except the empty one of P6. Definitions only. Assumes nothing.
+use Prim.Native.Nat.{ℕ}
+use mathlib.Core.List.{List, [], _∷_, _++_, map}
+use lib.ListN.{length}
+use Rattle.key_order.specs.declared.Ordering.{Ordering}
+use Rattle.key_order.specs.declared.Ordering.the-variants.{Less}
+use Rattle.key_order.specs.Boundary.{compareBoundaries}
+use Rattle.query_item.specs.declared.BoundaryKind.the-variants.{ExclusiveEnd, Inclusive, ExclusiveStart}
+use Rattle.query_item.specs.declared.ItemWords.{ItemWords}
+use Rattle.query_item.specs.declared.QueryItem.{QueryItem}
+use Rattle.query_item.specs.declared.MaybeItem.{MaybeItem}
+use Rattle.query_item.specs.Items.{keyAt, absent, itemWords, wordsOf, flat}
+use Rattle.query_item.specs.Boundaries.{boundary}
+use Rattle.item_check.specs.Checks.{Answer, answered, refused}
+use Rattle.intersect.specs.declared.ManyCounts.{ManyCounts}
+use Rattle.intersect.specs.declared.QueryItemIntersectionResult.{QueryItemIntersectionResult}
+use Rattle.intersect.specs.Pair.{asItems, pairAnswer}
+use Rattle.intersect.specs.Lists.{sharedItems, onlyItems, manyAnswer}
+use Rattle.intersect.specs.Demand.{Shown, shown}
+use Rattle.insert.specs.Answers.{insertAnswer, listAfter}
+
+-- what a row gives: orders; the pair's shared part, our two leftovers and their two; the three lists; the list after an insertion; or a
+-- refusal
+pub data Result : Type 0 where
+  orders : List Ordering → Result
+  parts : List Shown → List Shown → List Shown → List Shown → List Shown → Result
+  lists : List Shown → List Shown → List Shown → Result
+  list : List Shown → Result
+  refusal : ℕ → ℕ → ℕ → Result
+
+-- ---- items, as document 01 writes them: code, keys by place in the pool 01 02 .. 09, so that the key k is the byte at k - 1
+
+abbrev digits : List ℕ
+digits = 1 ∷ 2 ∷ 3 ∷ 4 ∷ 5 ∷ 6 ∷ 7 ∷ 8 ∷ 9 ∷ []
+
+-- an item of two keys, of one at the start, of none
+abbrev two : ℕ → ℕ → ℕ → ItemWords
+two code a b = itemWords code 0 (keyAt a 1) (keyAt b 1)
+
+abbrev one : ℕ → ℕ → ItemWords
+one code a = itemWords code 0 (keyAt a 1) absent
+
+abbrev full : ItemWords
+full = itemWords 3 0 absent absent
+
+-- RangeFrom of the empty key
+abbrev fromEmpty : ItemWords
+fromEmpty = itemWords 4 0 absent absent
+
+abbrev listOf : List ItemWords → List ℕ
+listOf [] = []
+listOf (it ∷ its) = flat it ++ listOf its
+
+-- ---- the calls' definitions, as results
+
+abbrev itemsShown : List ℕ → List QueryItem → List Shown
+itemsShown pool Q = map (shown pool) (map (wordsOf 0) Q)
+
+abbrev itemShown : List ℕ → MaybeItem → List Shown
+itemShown pool m = itemsShown pool (asItems m)
+
+abbrev pairResult : List ℕ → Answer QueryItemIntersectionResult → Result
+pairResult pool (answered p) =
+    parts (itemShown pool (p .«in_both»)) (itemShown pool (p .«ours_left»)) (itemShown pool (p .«ours_right»))
+    (itemShown pool (p .«theirs_left»)) (itemShown pool (p .«theirs_right»))
+pairResult pool (refused number side index) = refusal number side index
+
+abbrev pairOf : ItemWords → ItemWords → Result
+pairOf ours theirs = pairResult digits (pairAnswer digits ours theirs)
+
+-- three outputs with room for three items
+abbrev room : List ℕ
+room = listOf (full ∷ full ∷ full ∷ [])
+
+abbrev listResult : List ℕ → List ℕ → List ℕ → Answer ManyCounts → Result
+listResult pool ours theirs (answered c) =
+    lists (itemsShown pool (sharedItems pool ours theirs)) (itemsShown pool (onlyItems pool ours theirs)) (itemsShown pool (onlyItems pool theirs ours))
+listResult pool ours theirs (refused number side index) = refusal number side index
+
+abbrev listsOf : List ItemWords → List ItemWords → Result
+listsOf ours theirs = listResult digits (listOf ours) (listOf theirs) (manyAnswer digits (listOf ours) (listOf theirs) room room room)
+
+-- a buffer of the list and room for three items more
+abbrev insertResult : List ItemWords → Answer ℕ → Result
+insertResult after (answered n) = list (map (shown digits) after)
+insertResult after (refused number side index) = refusal number side index
+
+abbrev insertOf : List ItemWords → ItemWords → Result
+insertOf its new =
+    insertResult (listAfter digits (listOf its ++ room) (length its) new) (insertAnswer digits (listOf its ++ room) (length its) new)
+
+-- what an item shows: code, wrapper, key bytes
+abbrev key : ℕ → Shown
+key a = (0, 0, a ∷ [], [])
+
+abbrev between : ℕ → ℕ → ℕ → Shown
+between code a b = (code, 0, a ∷ [], b ∷ [])
+
+abbrev upTo : ℕ → ℕ → Shown
+upTo code b = (code, 0, [], b ∷ [])
+
+abbrev startsAt : ℕ → ℕ → Shown
+startsAt code a = (code, 0, a ∷ [], [])
+
+-- ---- the table: what is given, and the document's result
+
+abbrev pub Row : Type 0
+Row = Result × Result
+
+abbrev pub rows : List Row
+rows =
+    -- P1: key 05: ExclusiveEnd < Inclusive < ExclusiveStart
+    (orders (compareBoundaries (boundary ExclusiveEnd (5 ∷ [])) (boundary Inclusive (5 ∷ [])) ∷ compareBoundaries (boundary Inclusive (5 ∷ [])) (boundary ExclusiveStart (5 ∷ [])) ∷ []), orders (Less ∷ Less ∷ []))
+    -- P2: [01,05), Key 03: as the listing
+    ∷ (listsOf (two 1 0 4 ∷ []) (one 0 2 ∷ []), lists (key 3 ∷ []) (between 1 1 3 ∷ between 8 3 5 ∷ []) [])
+    -- P3: [01,05), [05,09]: nothing shared; ours left, theirs right
+    ∷ (pairOf (two 1 0 4) (two 2 4 8), parts [] (between 1 1 5 ∷ []) [] [] (between 2 5 9 ∷ []))
+    -- P4: (05,09], [01,05]: nothing shared; ours right, theirs left
+    ∷ (pairOf (two 9 4 8) (two 2 0 4), parts [] [] (between 9 5 9 ∷ []) (between 2 1 5 ∷ []) [])
+    -- P5: [05,05], full: Key 05; theirs RangeTo 05, RangeAfter 05
+    ∷ (pairOf (two 2 4 4) full, parts (key 5 ∷ []) [] [] (upTo 5 5 ∷ []) (startsAt 7 5 ∷ []))
+    -- P6: full, RangeFrom -: RangeFrom -; ours left RangeTo -
+    ∷ (pairOf full fromEmpty, parts ((4, 0, [], []) ∷ []) ((5, 0, [], []) ∷ []) [] [] [])
+    -- P7: {[01,03],[07,09]}, {[02,08]}: shared [02,03],[07,08]; ours [01,02),(08,09]; theirs (03,07)
+    ∷ (listsOf (two 2 0 2 ∷ two 2 6 8 ∷ []) (two 2 1 7 ∷ []), lists (between 2 2 3 ∷ between 2 7 8 ∷ []) (between 1 1 2 ∷ between 9 8 9 ∷ []) (between 8 3 7 ∷ []))
+    -- P8: {}, {Key 04}: theirs Key 04
+    ∷ (listsOf [] (one 0 3 ∷ []), lists [] [] (key 4 ∷ []))
+    -- P12: {[01,03],05,09}, insert [02,06): {[01,06),09}
+    ∷ (insertOf (two 2 0 2 ∷ one 0 4 ∷ one 0 8 ∷ []) (two 1 1 5), list (between 1 1 6 ∷ key 9 ∷ []))
+    -- P13: {[01,05)}, insert [05,09]: both stay
+    ∷ (insertOf (two 1 0 4 ∷ []) (two 2 4 8), list (between 1 1 5 ∷ between 2 5 9 ∷ []))
+    ∷ []
