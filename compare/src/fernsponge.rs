@@ -91,6 +91,33 @@ mod c {
             words_length: usize,
             theirs: bool,
         ) -> u64;
+
+        pub fn fernsponge_intersect_items(
+            pool: *const u8,
+            pool_length: usize,
+            ours: *const u32,
+            ours_length: usize,
+            theirs: *const u32,
+            theirs_length: usize,
+            out: *mut u32,
+            out_length: usize,
+        ) -> u64;
+
+        pub fn fernsponge_intersect_many(
+            pool: *const u8,
+            pool_length: usize,
+            ours: *const u32,
+            ours_length: usize,
+            theirs: *const u32,
+            theirs_length: usize,
+            both: *mut u32,
+            both_length: usize,
+            mine: *mut u32,
+            mine_length: usize,
+            yours: *mut u32,
+            yours_length: usize,
+            counts: *mut [u64; 3],
+        ) -> u64;
     }
 }
 
@@ -215,6 +242,52 @@ pub fn check_list(pool: &[u8], words: &[u32], theirs: bool) -> u64 {
             words.as_ptr(),
             words.len(),
             theirs,
+        )
+    }
+}
+
+/// Thirty-five numbers, seven for each part: the shared one, ours left and right, theirs left and right. A part is 1 and six words, or 0s.
+pub fn intersect_items(pool: &[u8], ours: &[u32], theirs: &[u32], out: &mut [u32]) -> u64 {
+    // SAFETY: as in `compare_boundaries`
+    unsafe {
+        c::fernsponge_intersect_items(
+            pool.as_ptr(),
+            pool.len(),
+            ours.as_ptr(),
+            ours.len(),
+            theirs.as_ptr(),
+            theirs.len(),
+            out.as_mut_ptr(),
+            out.len(),
+        )
+    }
+}
+
+/// The items of the three lists go to the front of the words lent for each, shared, ours only and theirs only, and their counts to
+/// `counts`.
+pub fn intersect_many(
+    pool: &[u8],
+    ours: &[u32],
+    theirs: &[u32],
+    [both, mine, yours]: [&mut [u32]; 3],
+    counts: &mut [u64; 3],
+) -> u64 {
+    // SAFETY: as in `compare_boundaries`, of each of the four that are lent for writing
+    unsafe {
+        c::fernsponge_intersect_many(
+            pool.as_ptr(),
+            pool.len(),
+            ours.as_ptr(),
+            ours.len(),
+            theirs.as_ptr(),
+            theirs.len(),
+            both.as_mut_ptr(),
+            both.len(),
+            mine.as_mut_ptr(),
+            mine.len(),
+            yours.as_mut_ptr(),
+            yours.len(),
+            counts,
         )
     }
 }

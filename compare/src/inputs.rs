@@ -96,6 +96,61 @@ pub fn damage(random: &mut Random, words: &mut Vec<u32>, pool: &[u8]) {
     }
 }
 
+/// Two items exchanged, or one written over another, or the two keys of one exchanged.
+pub fn disorder(random: &mut Random, list: &mut [Words]) {
+    if list.is_empty() {
+        return;
+    }
+    let (x, y) = (random.below(list.len()), random.below(list.len()));
+    match random.below(3) {
+        0 => list.swap(x, y),
+        1 => list[x] = list[y],
+        _ => {
+            let [code, wrapper, start, start_length, end, end_length] = list[x];
+            list[x] = [code, wrapper, end, end_length, start, start_length];
+        }
+    }
+}
+
+/// Pools, at the limit and below it, with every single byte at its own offset, and ascending keys of two bytes after these.
+pub fn counting_pools() -> [Vec<u8>; 3] {
+    [8_192, 65_536, 65_537].map(|length| {
+        let byte = |at: u32| match at {
+            0..256 => at as u8,
+            _ => ((at - 256) / 2).to_be_bytes()[2 + at as usize % 2],
+        };
+        (0..length).map(byte).collect()
+    })
+}
+
+/// Items with a fault of every kind, and some with none, in such a pool.
+pub fn bad_items() -> impl Iterator<Item = Words> {
+    [
+        [0, 0, 5, 1, 0, 0],
+        [2, 3, 1, 1, 9, 1],
+        [3, 0, 0, 0, 0, 0],
+        // 1: an unknown code or wrapper, an absent key that is not 0
+        [10, 0, 0, 0, 0, 0],
+        [u32::MAX, 0, 5, 1, 0, 0],
+        [0, 4, 5, 1, 0, 0],
+        [3, 0, 1, 0, 0, 0],
+        [0, 0, 5, 1, 0, 1],
+        [6, 0, 0, 1, 5, 1],
+        // 2: a key that is too long, or past the pool
+        [0, 0, 0, 256, 0, 0],
+        [1, 0, 5, 1, 0, 256],
+        [7, 0, 65_537, 1, 0, 0],
+        [5, 0, 0, 0, 65_538, 0],
+        [4, 0, u32::MAX, u32::MAX, 0, 0],
+        // 3: from 05 to 03, and ranges that are empty
+        [2, 0, 5, 1, 3, 1],
+        [1, 0, 5, 1, 5, 1],
+        [8, 1, 5, 1, 5, 1],
+        [9, 2, 5, 1, 5, 1],
+    ]
+    .into_iter()
+}
+
 /// A small pool, and so many keys in it: 05 at two offsets, a key that begins so, and the empty one.
 pub fn few_keys(count: usize) -> (Vec<u8>, Vec<[u32; 2]>) {
     let mut keys = vec![[0, 1], [1, 1], [1, 2], [3, 0]];

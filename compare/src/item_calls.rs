@@ -1,87 +1,18 @@
-//! Module 2: our calls on boundaries, items and keys, on all short ones and on random ones, accepted and refused. What is refused, and the
-//! words lent for an answer, the Rust hasn't: these are held against document 01 alone.
+//! Module 2: our calls on boundaries, items and keys, on all short ones and on random ones, accepted and refused.
 
 use crate::{
     boundaries::{all_boundaries, boundaries_of, paper, rust, Boundary},
+    calls::Calls,
     fernsponge, hexadecimal,
     inputs::{damage, Pool},
-    items::{all_items, end_of, item_of, start_of, Words},
+    items::{all_items, item_of, keys, read, six, Words},
     keys_of, order_number,
     query_item::QueryItem,
     random::Random,
-    refusals::{self, refuse, Checked},
+    refusals,
     table::{Against, Held, Row},
     Size, BYTES,
 };
-use std::fmt::Debug;
-
-/// What a call gives back: the returned number, and all the words lent for its answer, as it leaves them.
-type Given = (u64, Vec<u32>);
-
-/// The calls of one function.
-struct Calls {
-    accepted: Row,
-    refused: Row,
-}
-
-impl Calls {
-    fn new(accepted: &'static str, refused: &'static str) -> Self {
-        Self {
-            accepted: Row::new(accepted),
-            refused: Row::new(refused),
-        }
-    }
-
-    /// A call that is lent so many words. It is held against document 01's answer, and where that is no refusal against the Rust's:
-    /// `rust` is handed the words that we wrote.
-    fn hold<R: PartialEq + Debug>(
-        &mut self,
-        input: impl Fn() -> String,
-        room: usize,
-        call: impl Fn(&mut [u32]) -> u64,
-        answer: Checked<Vec<u32>>,
-        rust: impl Fn(&[u32]) -> Held<R>,
-    ) {
-        let mut ours = lent(room);
-        let returned = call(&mut ours);
-        let given = given(room, answer);
-        let (row, rust) = match (given.0, returned) {
-            (0, 0) => (&mut self.accepted, Some(rust(&ours))),
-            (0, _) => (&mut self.accepted, None),
-            _ => (&mut self.refused, None),
-        };
-        let against = Against {
-            rust,
-            paper: Some(Held {
-                ours: (returned, ours),
-                other: given,
-            }),
-            listed: false,
-        };
-        row.hold(|| format!("{}, {room} words lent", input()), against);
-    }
-}
-
-/// Words lent for an answer, marked so that what is written shows.
-fn lent(room: usize) -> Vec<u32> {
-    (0..room as u32).map(|at| 0xFE00_0000 + at).collect()
-}
-
-/// What is to be given back: an answer's numbers at the front, or 6 where they have no room; a refused call writes nothing.
-fn given(room: usize, answer: Checked<Vec<u32>>) -> Given {
-    let mut words = lent(room);
-    let fitting = answer.and_then(|numbers| match numbers.len() > room {
-        true => refuse(6, 0, 0),
-        false => Ok(numbers),
-    });
-    match fitting {
-        Err(refusal) => (refusal.returned(), words),
-        Ok(numbers) => {
-            words[..numbers.len()].copy_from_slice(&numbers);
-            (0, words)
-        }
-    }
-}
 
 /// Each function's calls.
 struct All {
@@ -127,8 +58,7 @@ pub fn run(random: &mut Random, size: &Size) -> Vec<Row> {
         all.contain,
         all.direction,
     ];
-    let rows = calls.map(|calls| [calls.accepted, calls.refused]);
-    let mut rows: Vec<Row> = rows.into_iter().flatten().collect();
+    let mut rows: Vec<Row> = calls.into_iter().flat_map(Calls::rows).collect();
     rows.extend([all.order, all.collision]);
     rows
 }
@@ -416,18 +346,4 @@ fn our_order(x: Boundary, y: Boundary) -> u64 {
 
 fn owned(boundaries: [Boundary; 2]) -> [(u32, Vec<u8>); 2] {
     boundaries.map(|(kind, key)| (kind, key.to_vec()))
-}
-
-fn six(words: &[u32]) -> Option<Words> {
-    words.get(..6)?.try_into().ok()
-}
-
-fn read(words: &[u32], pool: &[u8]) -> Option<QueryItem> {
-    item_of(six(words)?, pool)
-}
-
-/// The keys of an accepted item, the absent ones empty.
-fn keys(item: Words, pool: &[u8]) -> (&[u8], &[u8]) {
-    let (start, end) = (start_of(item, pool), end_of(item, pool));
-    (start.unwrap_or(&[]), end.unwrap_or(&[]))
 }

@@ -37,6 +37,15 @@ pub fn item_of(words: Words, pool: &[u8]) -> Option<QueryItem> {
     }
 }
 
+/// The item of the first six words, if there are so many.
+pub fn read(words: &[u32], pool: &[u8]) -> Option<QueryItem> {
+    item_of(six(words)?, pool)
+}
+
+pub fn six(words: &[u32]) -> Option<Words> {
+    words.get(..6)?.try_into().ok()
+}
+
 /// The words of an item, its keys added to the pool, if it has one wrapper at most.
 pub fn words_of(item: &QueryItem, pool: &mut Vec<u8>) -> Option<Words> {
     let (wrapper, plain) = match item {
@@ -108,6 +117,12 @@ pub fn end_of(words: Words, pool: &[u8]) -> Option<&[u8]> {
     part(pool, words[4], words[5])
 }
 
+/// The keys of an accepted item, the absent ones empty.
+pub fn keys(item: Words, pool: &[u8]) -> (&[u8], &[u8]) {
+    let (start, end) = (start_of(item, pool), end_of(item, pool));
+    (start.unwrap_or(&[]), end.unwrap_or(&[]))
+}
+
 fn part(pool: &[u8], offset: u32, length: u32) -> Option<&[u8]> {
     pool.get(offset as usize..)?.get(..length as usize)
 }
@@ -127,6 +142,15 @@ pub fn holds(code: u32, a: &[u8], b: &[u8], k: &[u8]) -> bool {
         9 => a < k && k <= b,
         _ => false,
     }
+}
+
+/// Whether one of a list's items, as words, holds k.
+pub fn list_holds(list: &[u32], pool: &[u8], k: &[u8]) -> bool {
+    let mut items = list.chunks(6).filter_map(six);
+    items.any(|item| {
+        let (a, b) = keys(item, pool);
+        holds(item[0], a, b, k)
+    })
 }
 
 /// Checks the translation: there and back the words are the same, and the Rust finds the keys in the item that document 01's

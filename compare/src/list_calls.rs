@@ -2,8 +2,7 @@
 
 use crate::{
     fernsponge, hexadecimal,
-    inputs::{all_lists, damage, few_keys, Keys},
-    items::Words,
+    inputs::{all_lists, damage, disorder, few_keys, Keys},
     random::Random,
     refusals,
     table::{Against, Row},
@@ -41,22 +40,6 @@ pub fn run(random: &mut Random, size: &Size) -> Vec<Row> {
         }
     }
     rows.into()
-}
-
-/// Two items exchanged, or one written over another, or the two keys of one exchanged.
-fn disorder(random: &mut Random, list: &mut [Words]) {
-    if list.is_empty() {
-        return;
-    }
-    let (x, y) = (random.below(list.len()), random.below(list.len()));
-    match random.below(3) {
-        0 => list.swap(x, y),
-        1 => list[x] = list[y],
-        _ => {
-            let [code, wrapper, start, start_length, end, end_length] = list[x];
-            list[x] = [code, wrapper, end, end_length, start, start_length];
-        }
-    }
 }
 
 fn hold(rows: &mut [Row; 2], pool: &[u8], words: &[u32]) {

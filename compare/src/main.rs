@@ -1,18 +1,24 @@
 //! Calls our functions and the Rust's that they rebuild, in one process, and counts where they agree.
-//! `compare short` takes seconds, `compare long` is the whole. `compare self` calls nothing of ours: it holds the plain reading of what has
-//! no call yet against the Rust. Exit status 1 where anything disagrees.
+//! `compare short` takes seconds, `compare long` is the whole. Exit status 1 where anything disagrees.
 
 // position_intervals.rs finds QueryItem in a crate of this name
 extern crate self as grovedb_merk;
 
+mod algebra;
 mod boundaries;
+mod calls;
+mod departures;
 mod fernsponge;
 mod inputs;
 mod item_calls;
 mod items;
 mod key_order;
+mod laws;
 mod list_calls;
-mod lists;
+mod many;
+mod many_calls;
+mod many_refused;
+mod pair_calls;
 mod random;
 mod refusals;
 mod stand_ins;
@@ -42,6 +48,12 @@ struct Size {
     more_pairs: bool,
     /// the keys over which all lists of three items are tried
     listed: usize,
+    /// the keys over which all pairs of accepted lists of three items are tried
+    crossed: usize,
+    /// the random pairs of accepted lists, and triples; how many of the pairs are long, and how long
+    lists: u64,
+    long_lists: u64,
+    longest: usize,
 }
 
 const SHORT: Size = Size {
@@ -49,6 +61,10 @@ const SHORT: Size = Size {
     asked: 2,
     more_pairs: false,
     listed: 3,
+    crossed: 3,
+    lists: 500,
+    long_lists: 2,
+    longest: 512,
 };
 
 const LONG: Size = Size {
@@ -56,21 +72,24 @@ const LONG: Size = Size {
     asked: 3,
     more_pairs: true,
     listed: 4,
+    crossed: 4,
+    lists: 10_000,
+    long_lists: 6,
+    longest: 2_048,
 };
 
 fn main() -> ExitCode {
     let arguments: Vec<String> = env::args().skip(1).collect();
-    let run = match arguments.join(" ").as_str() {
-        "short" => |random: &mut Random| ours(random, &SHORT),
-        "long" => |random: &mut Random| ours(random, &LONG),
-        "self" => lists::run,
+    let size = match arguments.join(" ").as_str() {
+        "short" => SHORT,
+        "long" => LONG,
         _ => {
-            eprintln!("usage: compare short|long|self");
+            eprintln!("usage: compare short|long");
             return ExitCode::from(2);
         }
     };
     println!("compare {}, seed {SEED:#X}", arguments[0]);
-    let rows = run(&mut Random::new(SEED));
+    let rows = run(&mut Random::new(SEED), &size);
     table::print(&rows);
     match rows.iter().map(table::Row::failures).sum() {
         0 => ExitCode::SUCCESS,
@@ -81,11 +100,15 @@ fn main() -> ExitCode {
     }
 }
 
-fn ours(random: &mut Random, size: &Size) -> Vec<table::Row> {
+fn run(random: &mut Random, size: &Size) -> Vec<table::Row> {
     let mut rows = items::run();
     rows.extend(key_order::run(random, size.random));
     rows.extend(item_calls::run(random, size));
     rows.extend(list_calls::run(random, size));
+    rows.extend(pair_calls::run(random, size));
+    rows.extend(many_calls::run(random, size));
+    rows.extend(many_refused::run(random, size));
+    rows.extend(laws::run(random, size));
     rows
 }
 

@@ -1,7 +1,7 @@
 //! What document 01 refuses, and in which order, read as plainly as can be. The Rust refuses none of this.
 
 use crate::{
-    boundaries::{paper, EXCLUSIVE_END, UNBOUNDED_END, UNBOUNDED_START},
+    boundaries::{paper, Boundary, EXCLUSIVE_END, UNBOUNDED_END, UNBOUNDED_START},
     items::{has_end, has_start, Words},
 };
 
@@ -53,7 +53,7 @@ pub fn kinds(kinds: &[u32]) -> Checked<()> {
 /// An item on its own, in an interface that is lent words: the pool, six words, then 1 and 2.
 pub fn item(pool: &[u8], words: &[u32]) -> Checked<Words> {
     self::pool(pool)?;
-    let words = six(words)?;
+    let words = six(words, 0)?;
     match fault(words, pool) {
         0 => Ok(words),
         number => refuse(number, 0, 0),
@@ -63,7 +63,7 @@ pub fn item(pool: &[u8], words: &[u32]) -> Checked<Words> {
 /// Two boundaries in a pool: the pool, six words, the kinds, then 2. An unbounded one has no key, and its words are not read.
 pub fn set(pool: &[u8], words: &[u32]) -> Checked<Words> {
     self::pool(pool)?;
-    let words = six(words)?;
+    let words = six(words, 0)?;
     kinds(&words[..2])?;
     let bounded = |kind: u32| kind != UNBOUNDED_START && kind != UNBOUNDED_END;
     let start_out = bounded(words[0]) && key_out(pool, words[2], words[3]);
@@ -74,6 +74,22 @@ pub fn set(pool: &[u8], words: &[u32]) -> Checked<Words> {
     }
 }
 
+/// Two items of the algebra, in an interface that is lent words: six words each, the pool, then 1, 2 and 3 of ours and those of theirs.
+pub fn pair(pool: &[u8], ours: &[u32], theirs: &[u32]) -> Checked<[Words; 2]> {
+    let items = [six(ours, 0)?, six(theirs, 1)?];
+    self::pool(pool)?;
+    for (side, item) in (0..).zip(items) {
+        upright(item, pool, side, 0)?;
+    }
+    Ok(items)
+}
+
+/// Two lists for the algebra: the pool, ours entirely, theirs entirely.
+pub fn lists(pool: &[u8], ours: &[u32], theirs: &[u32]) -> Checked<()> {
+    list(pool, ours, 0)?;
+    list(pool, theirs, 1)
+}
+
 /// A list for the algebra: the pool, the shape, each item's 1, 2 and 3, and then 4.
 pub fn list(pool: &[u8], words: &[u32], side: u64) -> Checked<()> {
     self::pool(pool)?;
@@ -82,16 +98,7 @@ pub fn list(pool: &[u8], words: &[u32], side: u64) -> Checked<()> {
     }
     let mut ranges = vec![];
     for (index, item) in words.chunks(6).enumerate() {
-        let item = six(item)?;
-        let number = fault(item, pool);
-        if number != 0 {
-            return refuse(number, side, index);
-        }
-        let range = paper::range(item, pool);
-        if paper::order(range[0], range[1]).is_gt() {
-            return refuse(3, side, index);
-        }
-        ranges.push(range);
+        ranges.push(upright(six(item, side)?, pool, side, index)?);
     }
     for index in 1..ranges.len() {
         if paper::order(ranges[index - 1][1], ranges[index][0]).is_ge() {
@@ -101,10 +108,23 @@ pub fn list(pool: &[u8], words: &[u32], side: u64) -> Checked<()> {
     Ok(())
 }
 
-fn six(words: &[u32]) -> Checked<Words> {
+/// The range of an item that has neither 1 nor 2 nor 3.
+fn upright(item: Words, pool: &[u8], side: u64, index: usize) -> Checked<[Boundary<'_>; 2]> {
+    let number = fault(item, pool);
+    if number != 0 {
+        return refuse(number, side, index);
+    }
+    let range = paper::range(item, pool);
+    match paper::order(range[0], range[1]).is_gt() {
+        true => refuse(3, side, index),
+        false => Ok(range),
+    }
+}
+
+fn six(words: &[u32], side: u64) -> Checked<Words> {
     match words.try_into() {
         Ok(words) => Ok(words),
-        Err(_) => refuse(1, 0, 0),
+        Err(_) => refuse(1, side, 0),
     }
 }
 

@@ -1,4 +1,4 @@
-//! The table that a run ends with. The first failures of each function are printed where they are found.
+//! The table that a run ends with. The first failures of each function, and its first listed difference, are printed where they are found.
 
 use std::fmt::Debug;
 
@@ -80,6 +80,17 @@ impl<P> Against<(), P> {
     }
 }
 
+impl<R: Debug, P: Debug> Against<R, P> {
+    fn print(&self) {
+        if let Some(Held { ours, other }) = &self.rust {
+            println!("    ours {ours:?}\n    the Rust {other:?}");
+        }
+        if let Some(Held { ours, other }) = &self.paper {
+            println!("    ours {ours:?}\n    document 01 {other:?}");
+        }
+    }
+}
+
 impl Row {
     pub fn new(name: &'static str) -> Self {
         Self {
@@ -103,6 +114,10 @@ impl Row {
         let as_paper = self.as_paper.hold(&against.paper);
         if !as_rust && against.listed {
             self.listed += 1;
+            if self.listed == 1 {
+                println!("{} differs as listed, first on {}", self.name, input());
+                against.print();
+            }
         }
         if as_paper && (as_rust || against.listed) {
             return;
@@ -110,12 +125,7 @@ impl Row {
         self.failures += 1;
         if self.failures <= MOST_PRINTED {
             println!("{} fails on {}", self.name, input());
-            if let Some(Held { ours, other }) = &against.rust {
-                println!("    ours {ours:?}\n    the Rust {other:?}");
-            }
-            if let Some(Held { ours, other }) = &against.paper {
-                println!("    ours {ours:?}\n    document 01 {other:?}");
-            }
+            against.print();
         }
     }
 

@@ -65,7 +65,10 @@ setOfWords it = fromTo (withKey (kindNumbered (it .code)) (it .start)) (withKey 
 abbrev pub setNumbers : RangeSet → List ℕ
 setNumbers s = flat (setWords s)
 
--- how many items there are, and the words of the one, which is plain
+-- how many items there are, and the words of the one, which is plain: so many numbers
+abbrev pub maybeSize : ℕ
+maybeSize = 7
+
 abbrev pub itemNumbers : MaybeItem → List ℕ
 itemNumbers NoItem = 0 ∷ []
 itemNumbers (Item q) = 1 ∷ flat (wordsOf 0 q)

@@ -32,35 +32,36 @@ compareAnswer left a right b =
 abbrev pub invertAnswer : ℕ → Bool → Answer (List ℕ)
 invertAnswer n isStart = andThen (kindVerdict n) (answered (kindNumber (invertKind (kindNumbered n) isStart) ∷ []))
 
--- ---- single items, and two boundaries in a pool; a number of words other than six is refused with 1, 0 and 0
+-- ---- single items, and two boundaries in a pool; a number of words other than six is refused with 1, the item's side, which is 0 where
+-- it is alone, and 0
 
-abbrev pub sixVerdict : List ℕ → Verdict
-sixVerdict ws = cond (eqb (length ws) itemSize) accepted (refused 1 0 0)
+abbrev pub sixVerdict : List ℕ → ℕ → Verdict
+sixVerdict ws side = cond (eqb (length ws) itemSize) accepted (refused 1 side 0)
 
 abbrev pub rangeSetAnswer : List ℕ → List ℕ → Answer (List ℕ)
-rangeSetAnswer pool ws = andThen (sixVerdict ws) (inNumbers setNumbers (toRangeSetAnswer pool (itemAt ws 0)))
+rangeSetAnswer pool ws = andThen (sixVerdict ws 0) (inNumbers setNumbers (toRangeSetAnswer pool (itemAt ws 0)))
 
 abbrev pub betweenAnswer : List ℕ → ItemWords → Answer (List ℕ)
 betweenAnswer pool it = andThen (kindsVerdict (it .code) (it .wrapper)) (inNumbers itemNumbers (toQueryItemAnswer pool (setOfWords it)))
 
 abbrev pub queryItemAnswer : List ℕ → List ℕ → Answer (List ℕ)
-queryItemAnswer pool ws = andThen (sixVerdict ws) (betweenAnswer pool (itemAt ws 0))
+queryItemAnswer pool ws = andThen (sixVerdict ws 0) (betweenAnswer pool (itemAt ws 0))
 
 abbrev pub containsAnswer : List ℕ → List ℕ → List ℕ → Answer (List ℕ)
-containsAnswer pool ws k = andThen (sixVerdict ws) (inNumbers containmentNumbers (containmentAnswer pool (itemAt ws 0) k))
+containsAnswer pool ws k = andThen (sixVerdict ws 0) (inNumbers containmentNumbers (containmentAnswer pool (itemAt ws 0) k))
 
 abbrev pub directionOfFlag : Bool → Direction
 directionOfFlag left = cond left LeftOf RightOf
 
 abbrev pub inDirectionAnswer : List ℕ → List ℕ → List ℕ → Bool → Answer (List ℕ)
 inDirectionAnswer pool ws k left =
-    andThen (sixVerdict ws) (inNumbers directionNumbers (directionAnswer pool (itemAt ws 0) k (directionOfFlag left)))
+    andThen (sixVerdict ws 0) (inNumbers directionNumbers (directionAnswer pool (itemAt ws 0) k (directionOfFlag left)))
 
 -- ---- a list, ours or theirs: no words are lent, and the returned number says it all
 
-abbrev pub verdictNumber : Verdict → ℕ
-verdictNumber (answered u) = 0
-verdictNumber (refused number side index) = refusalNumber number side index
+abbrev pub answerNumber : {A : Type 0} → Answer A → ℕ
+answerNumber (answered a) = 0
+answerNumber (refused number side index) = refusalNumber number side index
 
 abbrev pub listNumber : List ℕ → List ℕ → Bool → ℕ
-listNumber pool ws theirs = verdictNumber (checkVerdict pool ws (boolNumber theirs))
+listNumber pool ws theirs = answerNumber (checkVerdict pool ws (boolNumber theirs))

@@ -1,11 +1,14 @@
 // How answers are told in numbers, and how they go into lent words.
 ghost use mathlib.Core.Path.{_≡_};
+ghost use Prim.Native.Nat.{_+_, _≤_};
 ghost use mathlib.Core.List.{[], _∷_};
+ghost use lib.ListN.{length};
+ghost use lib.Seq.{sets};
 ghost use Rattle.query_item.specs.Items.{flat};
 ghost use Rattle.query_item.specs.Boundaries.{withKey};
 ghost use Rattle.item_check.specs.Checks.{answered};
 ghost use Rattle.item_ask.specs.Calls.{containmentOf, directionOf, rangeAnswerOf, itemAnswerOf};
-ghost use Rattle.fernsponge.specs.Answers.{orderNumber, boolNumber, kindNumber, isKind, kindNumbered, refusalNumber, setWords, setOfWords, setNumbers, itemNumbers, containmentNumbers, directionNumbers, inNumbers, Gives};
+ghost use Rattle.fernsponge.specs.Answers.{orderNumber, boolNumber, kindNumber, isKind, kindNumbered, refusalNumber, setWords, setOfWords, setNumbers, maybeSize, itemNumbers, containmentNumbers, directionNumbers, inNumbers, Gives};
 use item_ask::Containment;
 use item_ask::InDirection;
 use item_ask::ItemAnswer;
@@ -28,7 +31,10 @@ use query_item::item::write_item;
 pub(crate) const MALFORMED: u64 = 1;
 
 // Fewer words lent than the answer has numbers: number 6, side 0, index 0.
-const NO_ROOM: u64 = 6;
+pub(crate) const NO_ROOM: u64 = 6;
+
+// The numbers of an item that may be missing: how many there are, and six words.
+pub(crate) const MAYBE_SIZE: usize = 7;
 
 // What a greater index is told as, so that a refusal's number fits 64 bits.
 const MOST_INDEX: usize = 1099511627776;
@@ -205,15 +211,23 @@ fn give_six(out: &mut [u32], words: ItemWords) -> u64
 fn give_item(out: &mut [u32], words: ItemWords) -> u64
     ensures { λ r. ⌜ Gives (answered (1 ∷ flat words)) (now (out .entry)) r (now (out .exit)) ⌝ }
 {
-    if out.len() < 7 {
+    if out.len() < MAYBE_SIZE {
         return NO_ROOM;
     }
-    out[0] = 1;
-    out[1] = words.code;
-    out[2] = words.wrapper;
-    out[3] = words.start.offset;
-    out[4] = words.start.length;
-    out[5] = words.end.offset;
-    out[6] = words.end.length;
+    put_maybe(out, 0, 1, words);
     0
+}
+
+// How many items there are, and the words of the one, from a place on.
+pub(crate) fn put_maybe(out: &mut [u32], at: usize, count: u32, words: ItemWords)
+    requires { ⌜ at + maybeSize ≤ length (now out) ⌝ }
+    ensures { λ _. ⌜ now (out .exit) ≡ sets (now (out .entry)) at (count ∷ flat words) ⌝ }
+{
+    out[at] = count;
+    out[at + 1] = words.code;
+    out[at + 2] = words.wrapper;
+    out[at + 3] = words.start.offset;
+    out[at + 4] = words.start.length;
+    out[at + 5] = words.end.offset;
+    out[at + 6] = words.end.length;
 }

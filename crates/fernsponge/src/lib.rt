@@ -1,11 +1,14 @@
-// The C interface: thin exported functions over the other crates, for Rust or C to link. A lent slice is an address and a length, and
-// one lent for writing may not overlap another; a bool is 0 or 1.
+// The C interface: thin exported functions over the other crates, for Rust or C to link. A lent slice is an address and a length, lent
+// numbers of a known count are an address alone, and what is lent for writing may not overlap anything else; a bool is 0 or 1.
 //
 // A call that may refuse returns the refusal as number + 256 · side + 65,536 · index, or 0. The numbers of its answer go to the front of
 // the words lent as `out`. Where fewer are lent than the answer has numbers, it is refused with 6; a refused call writes nothing. A call
-// that refuses nothing returns its answer. Definitions: specs/Answers.antt (numbers), specs/Calls.antt (each call). Laws: proofs/Laws.antt.
+// that refuses nothing returns its answer. Definitions: specs/Answers.antt (numbers), specs/Calls.antt (calls of modules 1 and 2),
+// specs/Intersect.antt (modules 3 and 4). Laws: proofs/Laws.antt.
 mod answer;
 pub mod items;
+pub mod many;
+pub mod pair;
 
 ghost use mathlib.Core.Path.{_≡_};
 ghost use Rattle.key_order.specs.Order.{compareKeys, smaller};

@@ -1,0 +1,116 @@
+//! Module 4: our call on lists that are refused or nearly so, every fault of ours beside every fault of theirs, and random lists, many of
+//! them damaged. Held against document 01 alone: the Rust refuses none of this.
+
+use crate::{
+    algebra::paper,
+    hexadecimal,
+    inputs::{bad_items, counting_pools, damage, disorder, Keys},
+    items::six,
+    many,
+    random::Random,
+    refusals,
+    table::{Against, Row},
+    Size,
+};
+
+pub fn run(random: &mut Random, size: &Size) -> Vec<Row> {
+    let mut rows = [
+        Row::new("intersect_many, all that it leaves"),
+        Row::new("intersect_many, refused"),
+    ];
+    edges(&mut rows);
+    for at in 0..size.random / 4 {
+        // few lists are long, and those are at the limit
+        let most = match at < size.long_lists {
+            true => 2_046 + random.below(4),
+            false => 8,
+        };
+        let keys = Keys::new(random, most);
+        let [ours, theirs] = [(); 2].map(|()| damaged(random, &keys, most));
+        let room = [(); 3].map(|()| random.below(12 * most + 7));
+        hold(&mut rows, &keys.pool, &ours, &theirs, &[room]);
+    }
+    rows.into()
+}
+
+/// A list that is accepted in every second case or so.
+fn damaged(random: &mut Random, keys: &Keys, most: usize) -> Vec<u32> {
+    let mut list = keys.list(random, most);
+    let often = random.below(2) == 0;
+    if often && random.below(2) == 0 {
+        disorder(random, &mut list);
+    }
+    let mut words = list.concat();
+    if often && random.below(2) == 0 {
+        damage(random, &mut words, &keys.pool);
+    }
+    words
+}
+
+/// Every fault of ours beside every fault of theirs, in pools and rooms at the limits.
+fn edges(rows: &mut [Row; 2]) {
+    let lists = bad_lists();
+    for pool in &counting_pools() {
+        for ours in &lists {
+            for theirs in &lists {
+                let rooms = [[0; 3], [5, 11, 12], [12, 5, 24], [24, 12, 5], [40; 3]];
+                hold(rows, pool, ours, theirs, &rooms);
+            }
+        }
+    }
+}
+
+/// Lists with a fault of every kind, alone, before and after others, and some with none; the pool counts up from 00.
+fn bad_lists() -> Vec<Vec<u32>> {
+    let key = |byte: u32| [0, 0, byte, 1, 0, 0];
+    let range = |from: u32, to: u32| [2, 0, from, 1, to, 1];
+    let (upside_down, unknown, outside) = (range(5, 3), [10, 0, 0, 0, 0, 0], [0, 0, 0, 256, 0, 0]);
+    let mut lists = vec![
+        vec![],
+        vec![key(1), key(5)],
+        vec![range(1, 3), range(5, 9)],
+        // not strict, at 1 or at 2
+        vec![key(5), key(3)],
+        vec![key(5), key(5)],
+        vec![range(1, 5), range(5, 9)],
+        vec![key(1), key(5), key(3)],
+        // which of two decides
+        vec![key(5), key(3), upside_down],
+        vec![upside_down, unknown],
+        vec![key(1), outside, unknown],
+        vec![key(1), unknown, outside],
+        vec![[10, 0, 0, 256, 0, 0]],
+        vec![[2, 0, 5, 1, 0, 256]],
+    ];
+    lists.extend(bad_items().map(|item| vec![item]));
+    let mut lists: Vec<Vec<u32>> = lists.iter().map(|list| list.concat()).collect();
+    // no multiple of six
+    for length in [1, 5, 7, 11] {
+        lists.push([key(1), key(5)].concat()[..length].to_vec());
+        lists.push([unknown, unknown].concat()[..length].to_vec());
+    }
+    // past the limit, in keys of two bytes that ascend
+    let many = (0..2_049).flat_map(|at| [0, 0, 256 + 2 * at, 2, 0, 0]);
+    lists.push(many.collect());
+    lists.push([unknown; 2_049].concat());
+    lists
+}
+
+/// A call with each of the rooms.
+fn hold(rows: &mut [Row; 2], pool: &[u8], ours: &[u32], theirs: &[u32], rooms: &[[usize; 3]]) {
+    let lists = refusals::lists(pool, ours, theirs).map(|()| {
+        let [x, y] = [ours, theirs].map(|words| Vec::from_iter(words.chunks(6).filter_map(six)));
+        paper::lists(&x, &y, pool)
+    });
+    for &room in rooms {
+        let paper = many::paper(lists.as_ref().map_err(|refusal| *refusal), room);
+        let row = &mut rows[usize::from(paper.returned != 0)];
+        row.hold(
+            || {
+                let pool = hexadecimal(pool);
+                format!("{ours:?} and {theirs:?} in {pool}, {room:?} words lent")
+            },
+            Against::paper(many::call(pool, ours, theirs, room), paper),
+        );
+    }
+}
