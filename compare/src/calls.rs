@@ -1,14 +1,11 @@
-//! Calls of ours that are lent words for an answer. What is refused, and the words, the Rust hasn't: these are held against document 01
-//! alone.
+//! Calls of ours that are lent places for an answer. What is refused, and what the places hold, the Rust hasn't: these are held against
+//! document 01 alone.
 
 use crate::{
-    refusals::{refuse, Checked},
+    refusals::Checked,
     table::{Against, Held, Row},
 };
 use std::fmt::Debug;
-
-/// What a call gives back: the returned number, and all the words lent for its answer, as it leaves them.
-type Given = (u64, Vec<u32>);
 
 /// The calls of one function.
 pub struct Calls {
@@ -24,33 +21,45 @@ impl Calls {
         }
     }
 
-    /// A call that is lent so many words. It is held against document 01's answer, and where that is no refusal against the Rust's:
-    /// `rust` is handed the words that we wrote.
-    pub fn hold<R: PartialEq + Debug>(
+    /// A call that is lent what is marked. It is held against document 01's answer, all that is lent as the call is to leave it, and where
+    /// that is no refusal against the Rust's: `rust` is handed what we wrote.
+    pub fn hold<L: Clone + PartialEq + Debug, R: PartialEq + Debug>(
         &mut self,
         input: impl Fn() -> String,
-        room: usize,
-        call: impl Fn(&mut [u32]) -> u64,
-        answer: Checked<Vec<u32>>,
-        rust: impl Fn(&[u32]) -> Held<R>,
+        marked: L,
+        call: impl Fn(&mut L) -> u64,
+        answer: Checked<L>,
+        rust: impl Fn(&L) -> Held<R>,
     ) {
-        let mut ours = lent(room);
+        let accepted = answer.is_ok();
+        let rust = |returned, left: &L| (accepted && returned == 0).then(|| rust(left));
+        self.hold_all(input, marked, call, answer, rust);
+    }
+
+    /// The same where the Rust refuses too: `rust` is handed the returned number besides, and tells where there is nothing of the Rust's.
+    pub fn hold_all<L: Clone + PartialEq + Debug, R: PartialEq + Debug>(
+        &mut self,
+        input: impl Fn() -> String,
+        marked: L,
+        call: impl Fn(&mut L) -> u64,
+        answer: Checked<L>,
+        rust: impl Fn(u64, &L) -> Option<Held<R>>,
+    ) {
+        let mut ours = marked.clone();
         let returned = call(&mut ours);
-        let given = given(room, answer);
-        let (row, rust) = match (given.0, returned) {
-            (0, 0) => (&mut self.accepted, Some(rust(&ours))),
-            (0, _) => (&mut self.accepted, None),
-            _ => (&mut self.refused, None),
+        let row = match answer {
+            Ok(_) => &mut self.accepted,
+            Err(_) => &mut self.refused,
         };
         let against = Against {
-            rust,
+            rust: rust(returned, &ours),
             paper: Some(Held {
                 ours: (returned, ours),
-                other: given,
+                other: given(marked, answer),
             }),
             listed: false,
         };
-        row.hold(|| format!("{}, {room} words lent", input()), against);
+        row.hold(input, against);
     }
 
     pub fn rows(self) -> [Row; 2] {
@@ -58,23 +67,31 @@ impl Calls {
     }
 }
 
-/// Words lent for an answer, marked so that what is written shows.
-pub fn lent(room: usize) -> Vec<u32> {
-    (0..room as u32).map(|at| 0xFE00_0000 + at).collect()
+/// The returned number, and all that is lent as it is to be left: a refused call writes nothing.
+fn given<L>(marked: L, answer: Checked<L>) -> (u64, L) {
+    match answer {
+        Err(refusal) => (refusal.returned(), marked),
+        Ok(left) => (0, left),
+    }
 }
 
-/// What is to be given back: an answer's numbers at the front, or 6 where they have no room; a refused call writes nothing.
-fn given(room: usize, answer: Checked<Vec<u32>>) -> Given {
-    let mut words = lent(room);
-    let fitting = answer.and_then(|numbers| match numbers.len() > room {
-        true => refuse(6, 0, 0),
-        false => Ok(numbers),
-    });
-    match fitting {
-        Err(refusal) => (refusal.returned(), words),
-        Ok(numbers) => {
-            words[..numbers.len()].copy_from_slice(&numbers);
-            (0, words)
-        }
-    }
+/// The first of the words that mark what is lent, so that what is written shows.
+pub const MARK: u32 = 0xFE00_0000;
+
+/// Marked words.
+pub fn lent(room: usize) -> Vec<u32> {
+    (0..room as u32).map(|at| MARK + at).collect()
+}
+
+/// Marked words of a known count.
+pub fn place<const N: usize>() -> [u32; N] {
+    std::array::from_fn(|at| MARK + at as u32)
+}
+
+/// The first of the numbers of 64 bits that mark what is lent.
+pub const WIDE_MARK: u64 = 0xFE00_0000_0000_0000;
+
+/// Marked numbers.
+pub fn wide_lent(room: usize) -> Vec<u64> {
+    (0..room as u64).map(|at| WIDE_MARK + at).collect()
 }

@@ -1,7 +1,22 @@
-//! The functions that libfernsponge.a exports, each behind a safe one. A lent slice is an address and a length. A call that may refuse
-//! returns number + 256 · side + 65,536 · index, or 0, and writes the numbers of its answer to the front of `out`.
+//! The functions that libfernsponge.a exports, each behind a safe one. A lent slice is an address and a length, and lent numbers of a known
+//! count are an address alone. A call that may refuse returns number + 256 · side + 65,536 · index, or 0, and writes only where it returns 0.
+
+use crate::items::Words;
+
+/// An item or none: 1 and its six words, or seven times 0.
+pub type MaybeWords = [u32; 7];
+
+/// Positions that are off: how many, and the smallest of them in the first places.
+#[derive(Clone, Debug, PartialEq)]
+pub struct Report {
+    pub total: u64,
+    pub count: u64,
+    pub examples: [u64; 16],
+}
 
 mod c {
+    use super::{MaybeWords, Words};
+
     /// A part of a lent slice, as it is handed back.
     #[repr(C)]
     pub struct Part {
@@ -32,56 +47,42 @@ mod c {
             right: u32,
             b: *const u8,
             b_length: usize,
-            out: *mut u32,
-            out_length: usize,
+            order: &mut u32,
         ) -> u64;
 
-        pub fn fernsponge_invert(
-            kind: u32,
-            is_start: bool,
-            out: *mut u32,
-            out_length: usize,
-        ) -> u64;
+        pub fn fernsponge_invert(kind: u32, is_start: bool, inverted: &mut u32) -> u64;
 
         pub fn fernsponge_to_range_set(
             pool: *const u8,
             pool_length: usize,
-            item: *const u32,
-            item_length: usize,
-            out: *mut u32,
-            out_length: usize,
+            item: &Words,
+            range: &mut Words,
         ) -> u64;
 
         pub fn fernsponge_to_query_item(
             pool: *const u8,
             pool_length: usize,
-            set: *const u32,
-            set_length: usize,
-            out: *mut u32,
-            out_length: usize,
+            range: &Words,
+            item: &mut MaybeWords,
         ) -> u64;
 
         pub fn fernsponge_could_contain_key(
             pool: *const u8,
             pool_length: usize,
-            item: *const u32,
-            item_length: usize,
+            item: &Words,
             key: *const u8,
             key_length: usize,
-            out: *mut u32,
-            out_length: usize,
+            held: &mut [u32; 2],
         ) -> u64;
 
         pub fn fernsponge_could_have_items_in_direction(
             pool: *const u8,
             pool_length: usize,
-            item: *const u32,
-            item_length: usize,
+            item: &Words,
             key: *const u8,
             key_length: usize,
             left: bool,
-            out: *mut u32,
-            out_length: usize,
+            yes: &mut u32,
         ) -> u64;
 
         pub fn fernsponge_check_list(
@@ -95,12 +96,13 @@ mod c {
         pub fn fernsponge_intersect_items(
             pool: *const u8,
             pool_length: usize,
-            ours: *const u32,
-            ours_length: usize,
-            theirs: *const u32,
-            theirs_length: usize,
-            out: *mut u32,
-            out_length: usize,
+            ours: &Words,
+            theirs: &Words,
+            in_both: &mut MaybeWords,
+            ours_left: &mut MaybeWords,
+            ours_right: &mut MaybeWords,
+            theirs_left: &mut MaybeWords,
+            theirs_right: &mut MaybeWords,
         ) -> u64;
 
         pub fn fernsponge_intersect_many(
@@ -116,7 +118,78 @@ mod c {
             mine_length: usize,
             yours: *mut u32,
             yours_length: usize,
-            counts: *mut [u64; 3],
+            counts: &mut [u64; 3],
+        ) -> u64;
+
+        pub fn fernsponge_insert_item(
+            pool: *const u8,
+            pool_length: usize,
+            words: *mut u32,
+            words_length: usize,
+            count: usize,
+            item: &Words,
+            after: &mut u64,
+        ) -> u64;
+
+        pub fn fernsponge_be_u64(key: *const u8, key_length: usize, position: &mut u64) -> u64;
+
+        pub fn fernsponge_from_query_items(
+            pool: *const u8,
+            pool_length: usize,
+            items: *const u32,
+            items_length: usize,
+            count: u64,
+            out: *mut u64,
+            out_length: usize,
+            pairs: &mut u64,
+        ) -> u64;
+
+        pub fn fernsponge_contains(
+            intervals: *const u64,
+            intervals_length: usize,
+            position: u64,
+            yes: &mut u32,
+        ) -> u64;
+
+        pub fn fernsponge_len(
+            intervals: *const u64,
+            intervals_length: usize,
+            rows: &mut u64,
+        ) -> u64;
+
+        pub fn fernsponge_is_empty(
+            intervals: *const u64,
+            intervals_length: usize,
+            yes: &mut u32,
+        ) -> u64;
+
+        pub fn fernsponge_missing_from(
+            intervals: *const u64,
+            intervals_length: usize,
+            proved: *const u64,
+            proved_length: usize,
+            total: &mut u64,
+            count: &mut u64,
+            examples: &mut [u64; 16],
+        ) -> u64;
+
+        pub fn fernsponge_extra_in(
+            intervals: *const u64,
+            intervals_length: usize,
+            proved: *const u64,
+            proved_length: usize,
+            total: &mut u64,
+            count: &mut u64,
+            examples: &mut [u64; 16],
+        ) -> u64;
+
+        pub fn fernsponge_describe(
+            total: u64,
+            count: u64,
+            examples: &[u64; 16],
+            out: *mut u8,
+            out_length: usize,
+            length: &mut u64,
         ) -> u64;
     }
 }
@@ -144,9 +217,9 @@ pub fn order_items(a: &[u8], b: &[u8]) -> u64 {
     }
 }
 
-/// One number: 0 less, 1 equal, 2 greater.
-pub fn compare_boundaries(left: u32, a: &[u8], right: u32, b: &[u8], out: &mut [u32]) -> u64 {
-    // SAFETY: as in `compare`, and `out` is lent for writing, which no other slice overlaps; so in those below
+/// Writes 0 less, 1 equal, 2 greater.
+pub fn compare_boundaries(left: u32, a: &[u8], right: u32, b: &[u8], order: &mut u32) -> u64 {
+    // SAFETY: as in `compare`, and `order` is lent for writing, which nothing else overlaps; so in those below
     unsafe {
         c::fernsponge_compare_boundaries(
             left,
@@ -155,79 +228,56 @@ pub fn compare_boundaries(left: u32, a: &[u8], right: u32, b: &[u8], out: &mut [
             right,
             b.as_ptr(),
             b.len(),
-            out.as_mut_ptr(),
-            out.len(),
+            order,
         )
     }
 }
 
-/// One number: the kind.
-pub fn invert(kind: u32, is_start: bool, out: &mut [u32]) -> u64 {
+/// Writes the kind.
+pub fn invert(kind: u32, is_start: bool, inverted: &mut u32) -> u64 {
     // SAFETY: as above
-    unsafe { c::fernsponge_invert(kind, is_start, out.as_mut_ptr(), out.len()) }
+    unsafe { c::fernsponge_invert(kind, is_start, inverted) }
 }
 
-/// Six numbers: the kinds of start and end, then offset and length of each key.
-pub fn to_range_set(pool: &[u8], item: &[u32], out: &mut [u32]) -> u64 {
+/// Writes the kinds of start and end, then offset and length of each key.
+pub fn to_range_set(pool: &[u8], item: &Words, range: &mut Words) -> u64 {
     // SAFETY: as above
-    unsafe {
-        c::fernsponge_to_range_set(
-            pool.as_ptr(),
-            pool.len(),
-            item.as_ptr(),
-            item.len(),
-            out.as_mut_ptr(),
-            out.len(),
-        )
-    }
+    unsafe { c::fernsponge_to_range_set(pool.as_ptr(), pool.len(), item, range) }
 }
 
-/// 0 where there is no item, else 1 and its six words. The two boundaries come as six words too.
-pub fn to_query_item(pool: &[u8], set: &[u32], out: &mut [u32]) -> u64 {
+/// Writes the item of two boundaries, which come as six words too.
+pub fn to_query_item(pool: &[u8], range: &Words, item: &mut MaybeWords) -> u64 {
     // SAFETY: as above
-    unsafe {
-        c::fernsponge_to_query_item(
-            pool.as_ptr(),
-            pool.len(),
-            set.as_ptr(),
-            set.len(),
-            out.as_mut_ptr(),
-            out.len(),
-        )
-    }
+    unsafe { c::fernsponge_to_query_item(pool.as_ptr(), pool.len(), range, item) }
 }
 
-/// Two numbers, 1 for yes: the key is held; it sits on an exclusive bound.
-pub fn could_contain_key(pool: &[u8], item: &[u32], key: &[u8], out: &mut [u32]) -> u64 {
+/// Writes two numbers, 1 for yes: the key is held; it sits on an exclusive bound.
+pub fn could_contain_key(pool: &[u8], item: &Words, key: &[u8], held: &mut [u32; 2]) -> u64 {
     // SAFETY: as above
     unsafe {
         c::fernsponge_could_contain_key(
             pool.as_ptr(),
             pool.len(),
-            item.as_ptr(),
-            item.len(),
+            item,
             key.as_ptr(),
             key.len(),
-            out.as_mut_ptr(),
-            out.len(),
+            held,
         )
     }
 }
 
-/// One number, 1 for yes.
-pub fn could_have_items(pool: &[u8], item: &[u32], key: &[u8], left: bool, out: &mut [u32]) -> u64 {
+/// Writes 1 for yes.
+pub fn could_have_items(pool: &[u8], item: &Words, key: &[u8], left: bool, yes: &mut u32) -> u64 {
     // SAFETY: as above
     unsafe {
         c::fernsponge_could_have_items_in_direction(
             pool.as_ptr(),
             pool.len(),
-            item.as_ptr(),
-            item.len(),
+            item,
             key.as_ptr(),
             key.len(),
             left,
-            out.as_mut_ptr(),
-            out.len(),
+            yes,
         )
     }
 }
@@ -246,19 +296,25 @@ pub fn check_list(pool: &[u8], words: &[u32], theirs: bool) -> u64 {
     }
 }
 
-/// Thirty-five numbers, seven for each part: the shared one, ours left and right, theirs left and right. A part is 1 and six words, or 0s.
-pub fn intersect_items(pool: &[u8], ours: &[u32], theirs: &[u32], out: &mut [u32]) -> u64 {
-    // SAFETY: as in `compare_boundaries`
+/// Writes the five parts: the shared one, ours left and right, theirs left and right.
+pub fn intersect_items(
+    pool: &[u8],
+    ours: &Words,
+    theirs: &Words,
+    [in_both, ours_left, ours_right, theirs_left, theirs_right]: &mut [MaybeWords; 5],
+) -> u64 {
+    // SAFETY: as in `compare_boundaries`, of each of the five that are lent for writing
     unsafe {
         c::fernsponge_intersect_items(
             pool.as_ptr(),
             pool.len(),
-            ours.as_ptr(),
-            ours.len(),
-            theirs.as_ptr(),
-            theirs.len(),
-            out.as_mut_ptr(),
-            out.len(),
+            ours,
+            theirs,
+            in_both,
+            ours_left,
+            ours_right,
+            theirs_left,
+            theirs_right,
         )
     }
 }
@@ -288,6 +344,122 @@ pub fn intersect_many(
             yours.as_mut_ptr(),
             yours.len(),
             counts,
+        )
+    }
+}
+
+/// Inserts an item into the first so many items of the words, and writes how many there are then.
+pub fn insert_item(
+    pool: &[u8],
+    words: &mut [u32],
+    count: usize,
+    item: &Words,
+    after: &mut u64,
+) -> u64 {
+    // SAFETY: as in `compare_boundaries`, of both that are lent for writing
+    unsafe {
+        c::fernsponge_insert_item(
+            pool.as_ptr(),
+            pool.len(),
+            words.as_mut_ptr(),
+            words.len(),
+            count,
+            item,
+            after,
+        )
+    }
+}
+
+/// Writes the position of a key.
+pub fn be_u64(key: &[u8], position: &mut u64) -> u64 {
+    // SAFETY: as in `compare_boundaries`
+    unsafe { c::fernsponge_be_u64(key.as_ptr(), key.len(), position) }
+}
+
+/// Writes the pairs of the covered positions to the front of `out`, and how many there are.
+pub fn from_query_items(
+    pool: &[u8],
+    items: &[u32],
+    count: u64,
+    out: &mut [u64],
+    pairs: &mut u64,
+) -> u64 {
+    // SAFETY: as above, of both that are lent for writing
+    unsafe {
+        c::fernsponge_from_query_items(
+            pool.as_ptr(),
+            pool.len(),
+            items.as_ptr(),
+            items.len(),
+            count,
+            out.as_mut_ptr(),
+            out.len(),
+            pairs,
+        )
+    }
+}
+
+/// Writes 1 for yes.
+pub fn contains(intervals: &[u64], position: u64, yes: &mut u32) -> u64 {
+    // SAFETY: as above
+    unsafe { c::fernsponge_contains(intervals.as_ptr(), intervals.len(), position, yes) }
+}
+
+/// Writes how many positions are covered.
+pub fn len(intervals: &[u64], rows: &mut u64) -> u64 {
+    // SAFETY: as above
+    unsafe { c::fernsponge_len(intervals.as_ptr(), intervals.len(), rows) }
+}
+
+/// Writes 1 for yes.
+pub fn is_empty(intervals: &[u64], yes: &mut u32) -> u64 {
+    // SAFETY: as above
+    unsafe { c::fernsponge_is_empty(intervals.as_ptr(), intervals.len(), yes) }
+}
+
+/// Writes which covered positions are not proved.
+pub fn missing_from(intervals: &[u64], proved: &[u64], report: &mut Report) -> u64 {
+    // SAFETY: as above, of each of the three that are lent for writing
+    unsafe {
+        c::fernsponge_missing_from(
+            intervals.as_ptr(),
+            intervals.len(),
+            proved.as_ptr(),
+            proved.len(),
+            &mut report.total,
+            &mut report.count,
+            &mut report.examples,
+        )
+    }
+}
+
+/// Writes which proved positions are not covered.
+pub fn extra_in(intervals: &[u64], proved: &[u64], report: &mut Report) -> u64 {
+    // SAFETY: as above
+    unsafe {
+        c::fernsponge_extra_in(
+            intervals.as_ptr(),
+            intervals.len(),
+            proved.as_ptr(),
+            proved.len(),
+            &mut report.total,
+            &mut report.count,
+            &mut report.examples,
+        )
+    }
+}
+
+/// Writes the text of a report to the front of `out`, and how long it is.
+pub fn describe(report: &Report, out: &mut [u8], length: &mut u64) -> u64 {
+    // SAFETY: as above, of both that are lent for writing
+    unsafe {
+        c::fernsponge_describe(
+            report.total,
+            report.count,
+            &report.examples,
+            out.as_mut_ptr(),
+            out.len(),
+            length,
         )
     }
 }

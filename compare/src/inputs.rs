@@ -1,7 +1,8 @@
 //! Inputs: pools by chance in which keys begin alike, keys, items and accepted lists in them, damaged words, and all lists of few items.
 
 use crate::{
-    items::{end_of, has_end, has_start, start_of, Words},
+    boundaries::paper::{compare_items, range},
+    items::{end_of, has_end, has_start, same, start_of, Words},
     random::Random,
     BYTES,
 };
@@ -81,19 +82,26 @@ pub fn bytes(random: &mut Random, length: usize) -> Vec<u8> {
 
 /// A word changed to one that is wrong, or nearly so, or a word too few or too many.
 pub fn damage(random: &mut Random, words: &mut Vec<u32>, pool: &[u8]) {
-    let end = pool.len() as u32;
-    let words_near = [0, 1, 3, 4, 5, 9, 10, 255, 256, end, end + 1, u32::MAX];
-    let word = random.one_of(&words_near);
     match random.below(10) {
         0 => drop(words.pop()),
-        1 => words.push(word),
-        _ => {
-            let at = random.below(words.len() + 1);
-            if let Some(old) = words.get_mut(at) {
-                *old = word;
-            }
-        }
+        1 => words.push(near(random, pool)),
+        _ => damage_word(random, words, pool),
     }
+}
+
+/// A word changed to one that is wrong, or nearly so.
+pub fn damage_word(random: &mut Random, words: &mut [u32], pool: &[u8]) {
+    let word = near(random, pool);
+    let at = random.below(words.len() + 1);
+    if let Some(old) = words.get_mut(at) {
+        *old = word;
+    }
+}
+
+/// A word near a limit.
+fn near(random: &mut Random, pool: &[u8]) -> u32 {
+    let end = pool.len() as u32;
+    random.one_of(&[0, 1, 3, 4, 5, 9, 10, 255, 256, end, end + 1, u32::MAX])
 }
 
 /// Two items exchanged, or one written over another, or the two keys of one exchanged.
@@ -151,6 +159,42 @@ pub fn bad_items() -> impl Iterator<Item = Words> {
     .into_iter()
 }
 
+/// Lists with a fault of every kind, alone, before and after others, and some with none; the pool counts up from 00.
+pub fn bad_lists() -> Vec<Vec<u32>> {
+    let key = |byte: u32| [0, 0, byte, 1, 0, 0];
+    let range = |from: u32, to: u32| [2, 0, from, 1, to, 1];
+    let (upside_down, unknown, outside) = (range(5, 3), [10, 0, 0, 0, 0, 0], [0, 0, 0, 256, 0, 0]);
+    let mut lists = vec![
+        vec![],
+        vec![key(1), key(5)],
+        vec![range(1, 3), range(5, 9)],
+        // not strict, at 1 or at 2
+        vec![key(5), key(3)],
+        vec![key(5), key(5)],
+        vec![range(1, 5), range(5, 9)],
+        vec![key(1), key(5), key(3)],
+        // which of two decides
+        vec![key(5), key(3), upside_down],
+        vec![upside_down, unknown],
+        vec![key(1), outside, unknown],
+        vec![key(1), unknown, outside],
+        vec![[10, 0, 0, 256, 0, 0]],
+        vec![[2, 0, 5, 1, 0, 256]],
+    ];
+    lists.extend(bad_items().map(|item| vec![item]));
+    let mut lists: Vec<Vec<u32>> = lists.iter().map(|list| list.concat()).collect();
+    // no multiple of six
+    for length in [1, 5, 7, 11] {
+        lists.push([key(1), key(5)].concat()[..length].to_vec());
+        lists.push([unknown, unknown].concat()[..length].to_vec());
+    }
+    // past the limit, in keys of two bytes that ascend
+    let many = (0..2_049).flat_map(|at| [0, 0, 256 + 2 * at, 2, 0, 0]);
+    lists.push(many.collect());
+    lists.push([unknown; 2_049].concat());
+    lists
+}
+
 /// A small pool, and so many keys in it: 05 at two offsets, a key that begins so, and the empty one.
 pub fn few_keys(count: usize) -> (Vec<u8>, Vec<[u32; 2]>) {
     let mut keys = vec![[0, 1], [1, 1], [1, 2], [3, 0]];
@@ -158,8 +202,8 @@ pub fn few_keys(count: usize) -> (Vec<u8>, Vec<[u32; 2]>) {
     (vec![0x05, 0x05, 0x00], keys)
 }
 
-/// Every list of at most three plain items over the keys, accepted or not.
-pub fn all_lists(keys: &[[u32; 2]]) -> Vec<Vec<Words>> {
+/// Every plain item over the keys, upright or not.
+pub fn plain_items(keys: &[[u32; 2]]) -> Vec<Words> {
     let of = |present: bool| match present {
         true => keys.to_vec(),
         false => vec![[0, 0]],
@@ -172,14 +216,26 @@ pub fn all_lists(keys: &[[u32; 2]]) -> Vec<Vec<Words>> {
             }
         }
     }
-    let mut lists: Vec<Vec<Words>> = vec![vec![]];
+    items
+}
+
+/// Every list of at most three plain items over the keys, accepted or not.
+pub fn all_lists(keys: &[[u32; 2]]) -> Vec<Vec<Words>> {
+    lists_of(&plain_items(keys), 3, |_| true)
+}
+
+/// Every list of at most so many of the things that passes, and that each list which it starts with passes too.
+pub fn lists_of<T: Copy>(items: &[T], most: usize, passes: impl Fn(&[T]) -> bool) -> Vec<Vec<T>> {
+    let mut lists: Vec<Vec<T>> = vec![vec![]];
     let mut from = 0;
-    for _ in 0..3 {
+    for _ in 0..most {
         let to = lists.len();
         for at in from..to {
-            for item in &items {
+            for item in items {
                 let longer = [&lists[at][..], &[*item]].concat();
-                lists.push(longer);
+                if passes(&longer) {
+                    lists.push(longer);
+                }
             }
         }
         from = to;
@@ -263,6 +319,56 @@ impl Keys {
             from = end + 1;
         }
         list
+    }
+
+    /// An upright item.
+    pub fn item(&self, random: &mut Random, wrapper: u32) -> Words {
+        let (x, y) = (random.below(self.keys.len()), random.below(self.keys.len()));
+        let code = match random.below(10) as u32 {
+            // from a key to itself there are no others
+            1 | 8 | 9 if x == y => 2,
+            code => code,
+        };
+        let mut item = [code, wrapper, 0, 0, 0, 0];
+        if has_start(code) {
+            [item[2], item[3]] = self.keys[x.min(y)][random.below(2)];
+        }
+        if has_end(code) {
+            [item[4], item[5]] = self.keys[x.max(y)][random.below(2)];
+        }
+        item
+    }
+
+    /// A list in insertion order, of at most so many items: plain ones that are strict, and wrapped ones anywhere, some of equal range.
+    pub fn insertion_list(&self, random: &mut Random, most: usize) -> Vec<Words> {
+        let wrapped = random.below(most + 1);
+        let mut list = self.list(random, most - wrapped);
+        for item in &mut list {
+            item[1] = 0;
+        }
+        for _ in 0..wrapped {
+            let wrapper = 1 + random.below(3) as u32;
+            let item = match random.below(2) {
+                0 if !list.is_empty() => {
+                    let [code, _, a, b, c, d] = random.one_of(&list);
+                    [code, wrapper, a, b, c, d]
+                }
+                _ => self.item(random, wrapper),
+            };
+            list.insert(random.below(list.len() + 1), item);
+        }
+        let range = |item: &Words| range(*item, &self.pool);
+        list.sort_by(|x, y| compare_items(range(x), range(y)));
+        let mut once: Vec<Words> = vec![];
+        for item in list {
+            // equal ones stand among those of equal range
+            let alike = once.iter().rev();
+            let mut alike = alike.take_while(|old| range(old) == range(&item));
+            if !alike.any(|old| same(*old, item, &self.pool)) {
+                once.push(item);
+            }
+        }
+        once
     }
 
     /// A few of the keys.

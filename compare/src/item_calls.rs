@@ -2,10 +2,10 @@
 
 use crate::{
     boundaries::{all_boundaries, boundaries_of, paper, rust, Boundary},
-    calls::Calls,
+    calls::{place, Calls, MARK},
     fernsponge, hexadecimal,
-    inputs::{damage, Pool},
-    items::{all_items, item_of, keys, read, six, Words},
+    inputs::{damage_word, Pool},
+    items::{all_items, item_of, keys, maybe_words, read, Words},
     keys_of, order_number,
     query_item::QueryItem,
     random::Random,
@@ -69,22 +69,20 @@ impl All {
         let boundaries = all_boundaries(&keys);
         for &x in &boundaries {
             for &y in &boundaries {
-                self.compare(x, y, 2);
+                self.compare(x, y);
                 // in a pool that holds the two keys, and in one where both are the first
                 let pool = [&[0x7F], x.1, y.1].concat();
                 let (a, b) = (x.1.len() as u32, y.1.len() as u32);
-                self.query_item(&pool, &[x.0, y.0, 1, a, 1 + a, b], 8);
-                self.query_item(&pool, &[x.0, y.0, 1, a, 1, a], 8);
+                self.query_item(&pool, [x.0, y.0, 1, a, 1 + a, b]);
+                self.query_item(&pool, [x.0, y.0, 1, a, 1, a]);
             }
         }
         for kind in [0, 1, 2, 3, 4, 5, u32::MAX] {
-            for room in 0..3 {
-                for is_start in [false, true] {
-                    self.invert(kind, is_start, room);
-                }
-                for other in [0, 4, 5, u32::MAX] {
-                    self.compare((kind, &[5]), (other, &[5, 0]), room);
-                }
+            for is_start in [false, true] {
+                self.invert(kind, is_start);
+            }
+            for other in [0, 4, 5, u32::MAX] {
+                self.compare((kind, &[5]), (other, &[5, 0]));
             }
         }
     }
@@ -92,11 +90,11 @@ impl All {
     fn short_items(&mut self, size: &Size) {
         let asked = keys_of(&BYTES, size.asked);
         for (words, pool) in all_items(&keys_of(&BYTES, 2)) {
-            self.range_set(&pool, &words, 7);
+            self.range_set(&pool, words);
             for key in &asked {
-                self.contain(&pool, &words, key, 3);
-                self.direction(&pool, &words, key, true, 2);
-                self.direction(&pool, &words, key, false, 2);
+                self.contain(&pool, words, key);
+                self.direction(&pool, words, key, true);
+                self.direction(&pool, words, key, false);
             }
         }
     }
@@ -114,7 +112,7 @@ impl All {
         }
     }
 
-    /// Words that are refused, or nearly so: codes, wrappers, kinds, keys, pools and rooms at the limits.
+    /// Words that are refused, or nearly so: codes, wrappers, kinds, keys and pools at the limits.
     fn edges(&mut self) {
         let pools = [0, 2, 256, 65_536, 65_537].map(|length| vec![0x7F; length]);
         let keys = [
@@ -137,25 +135,14 @@ impl All {
                     for start in keys {
                         for end in keys {
                             let words = [code, wrapper, start[0], start[1], end[0], end[1]];
-                            self.range_set(pool, &words, 7);
-                            self.query_item(pool, &words, 8);
+                            self.range_set(pool, words);
+                            self.query_item(pool, words);
                             for key in [&[0x7F, 0x7F][..], &[]] {
-                                self.contain(pool, &words, key, 2);
-                                self.direction(pool, &words, key, wrapper == 0, 1);
+                                self.contain(pool, words, key);
+                                self.direction(pool, words, key, wrapper == 0);
                             }
                         }
                     }
-                }
-            }
-            // every number of words up to two items, and every room
-            for length in 0..13 {
-                for room in 0..9 {
-                    let words = [2, 2, 0, 1, 1, 1, 0, 0, 0, 0, 0, 0];
-                    let words = &words[..length];
-                    self.range_set(pool, words, room);
-                    self.query_item(pool, words, room);
-                    self.contain(pool, words, &[0x7F], room);
-                    self.direction(pool, words, &[0x7F], true, room);
                 }
             }
         }
@@ -168,129 +155,123 @@ impl All {
         if let (Some(one), Some(two)) = (item_of(x, bytes), item_of(y, bytes)) {
             self.pair((x, bytes, &one), (y, bytes, &two));
         }
-        let mut words = x.to_vec();
+        let mut words = x;
         let [a, b] = [pool.key(random), pool.key(random)];
         let [left, right] = [random.below(5) as u32, random.below(5) as u32];
-        let mut set = vec![left, right, a[0], a[1], b[0], b[1]];
-        if let Some([x, y]) = boundaries_of([left, right, a[0], a[1], b[0], b[1]], bytes) {
-            self.compare(x, y, 1 + random.below(2));
+        let mut set = [left, right, a[0], a[1], b[0], b[1]];
+        if let Some([x, y]) = boundaries_of(set, bytes) {
+            self.compare(x, y);
         }
-        self.invert(left, random.below(2) == 0, 1);
+        self.invert(left, random.below(2) == 0);
         if random.below(4) == 0 {
             for _ in 0..=random.below(2) {
-                damage(random, &mut words, bytes);
-                damage(random, &mut set, bytes);
+                damage_word(random, &mut words, bytes);
+                damage_word(random, &mut set, bytes);
             }
         }
         let key = pool.asked(random, x);
-        self.range_set(bytes, &words, 5 + random.below(3));
-        self.query_item(bytes, &set, 6 + random.below(3));
-        self.contain(bytes, &words, &key, 1 + random.below(4));
-        self.direction(bytes, &words, &key, random.below(2) == 0, random.below(4));
+        self.range_set(bytes, words);
+        self.query_item(bytes, set);
+        self.contain(bytes, words, &key);
+        self.direction(bytes, words, &key, random.below(2) == 0);
     }
 
-    fn compare(&mut self, x: Boundary, y: Boundary, room: usize) {
-        let order = |_| vec![order_number(paper::order(x, y)) as u32];
+    fn compare(&mut self, x: Boundary, y: Boundary) {
         self.compare.hold(
             || {
                 let (a, b) = (hexadecimal(x.1), hexadecimal(y.1));
                 format!("{} {a} and {} {b}", x.0, y.0)
             },
-            room,
-            |out| fernsponge::compare_boundaries(x.0, x.1, y.0, y.1, out),
-            refusals::kinds(&[x.0, y.0]).map(order),
-            |out| Held {
-                ours: u64::from(out[0]),
+            MARK,
+            |order| fernsponge::compare_boundaries(x.0, x.1, y.0, y.1, order),
+            refusals::kinds(&[x.0, y.0]).map(|()| order_number(paper::order(x, y)) as u32),
+            |order| Held {
+                ours: u64::from(*order),
                 other: rust::compare_boundaries(x, y),
             },
         );
     }
 
-    fn invert(&mut self, kind: u32, is_start: bool, room: usize) {
+    fn invert(&mut self, kind: u32, is_start: bool) {
         self.invert.hold(
             || format!("{kind}, a start: {is_start}"),
-            room,
-            |out| fernsponge::invert(kind, is_start, out),
-            refusals::kinds(&[kind]).map(|()| vec![paper::invert(kind, is_start)]),
-            |out| Held {
-                ours: out[0],
+            MARK,
+            |inverted| fernsponge::invert(kind, is_start, inverted),
+            refusals::kinds(&[kind]).map(|()| paper::invert(kind, is_start)),
+            |inverted| Held {
+                ours: *inverted,
                 other: rust::invert(kind, is_start),
             },
         );
     }
 
-    fn range_set(&mut self, pool: &[u8], words: &[u32], room: usize) {
+    fn range_set(&mut self, pool: &[u8], item: Words) {
         self.range_set.hold(
-            || format!("{words:?} in {}", hexadecimal(pool)),
-            room,
-            |out| fernsponge::to_range_set(pool, words, out),
-            refusals::item(pool, words).map(|item| paper::to_range_set(item).to_vec()),
-            |out| Held {
-                ours: six(out).and_then(|set| boundaries_of(set, pool)).map(owned),
-                other: read(words, pool).map(|item| rust::to_range_set(&item, owned)),
+            || format!("{item:?} in {}", hexadecimal(pool)),
+            place(),
+            |range| fernsponge::to_range_set(pool, &item, range),
+            refusals::item(pool, item).map(|()| paper::to_range_set(item)),
+            |range| Held {
+                ours: boundaries_of(*range, pool).map(owned),
+                other: item_of(item, pool).map(|item| rust::to_range_set(&item, owned)),
             },
         );
     }
 
-    fn query_item(&mut self, pool: &[u8], words: &[u32], room: usize) {
-        let numbers = |set| match paper::to_query_item(set, pool) {
-            None => vec![0],
-            Some(item) => [&[1], &item[..]].concat(),
-        };
+    fn query_item(&mut self, pool: &[u8], set: Words) {
         self.query_item.hold(
-            || format!("{words:?} in {}", hexadecimal(pool)),
-            room,
-            |out| fernsponge::to_query_item(pool, words, out),
-            refusals::set(pool, words).map(numbers),
-            |out| Held {
-                ours: (out[0], read(&out[1..], pool).filter(|_| out[0] == 1)),
+            || format!("{set:?} in {}", hexadecimal(pool)),
+            place(),
+            |item| fernsponge::to_query_item(pool, &set, item),
+            refusals::set(pool, set).map(|()| maybe_words(paper::to_query_item(set, pool))),
+            |item| Held {
+                ours: (item[0], read(&item[1..], pool).filter(|_| item[0] == 1)),
                 other: {
-                    let set = six(words).and_then(|set| boundaries_of(set, pool));
-                    let item = set.and_then(rust::to_query_item);
+                    let item = boundaries_of(set, pool).and_then(rust::to_query_item);
                     (u32::from(item.is_some()), item)
                 },
             },
         );
     }
 
-    fn contain(&mut self, pool: &[u8], words: &[u32], key: &[u8], room: usize) {
-        let held = |item| {
+    fn contain(&mut self, pool: &[u8], item: Words, key: &[u8]) {
+        let held = |()| {
             let (a, b) = keys(item, pool);
             paper::could_contain_key(item[0], a, b, key).map(u32::from)
         };
         self.contain.hold(
             || {
                 let (pool, key) = (hexadecimal(pool), hexadecimal(key));
-                format!("{words:?} in {pool}, asked for {key}")
+                format!("{item:?} in {pool}, asked for {key}")
             },
-            room,
-            |out| fernsponge::could_contain_key(pool, words, key, out),
-            refusals::item(pool, words).map(|item| held(item).to_vec()),
-            |out| Held {
-                ours: Some([out[0], out[1], out[0]]),
-                other: read(words, pool)
+            place(),
+            |held| fernsponge::could_contain_key(pool, &item, key, held),
+            refusals::item(pool, item).map(held),
+            |held| Held {
+                ours: Some([held[0], held[1], held[0]]),
+                other: item_of(item, pool)
                     .and_then(|item| rust::could_contain_key(&item, key))
                     .map(|answer| answer.map(u32::from)),
             },
         );
     }
 
-    fn direction(&mut self, pool: &[u8], words: &[u32], key: &[u8], left: bool, room: usize) {
-        let yes = |item| {
+    fn direction(&mut self, pool: &[u8], item: Words, key: &[u8], left: bool) {
+        let yes = |()| {
             let (a, b) = keys(item, pool);
             u32::from(paper::could_have_items(item[0], a, b, key, left))
         };
         self.direction.hold(
             || {
                 let (pool, key) = (hexadecimal(pool), hexadecimal(key));
-                format!("{words:?} in {pool}, asked for {key}, left: {left}")
+                format!("{item:?} in {pool}, asked for {key}, left: {left}")
             },
-            room,
-            |out| fernsponge::could_have_items(pool, words, key, left, out),
-            refusals::item(pool, words).map(|item| vec![yes(item)]),
-            |out| Held {
-                ours: Some(out[0]),
-                other: read(words, pool)
+            MARK,
+            |yes| fernsponge::could_have_items(pool, &item, key, left, yes),
+            refusals::item(pool, item).map(yes),
+            |yes| Held {
+                ours: Some(*yes),
+                other: item_of(item, pool)
                     .and_then(|item| rust::could_have_items(&item, key, left))
                     .map(u32::from),
             },
@@ -332,16 +313,16 @@ impl All {
 }
 
 fn our_boundaries(words: Words, pool: &[u8]) -> Option<[Boundary<'_>; 2]> {
-    let mut set = [0; 6];
+    let mut set = place();
     let returned = fernsponge::to_range_set(pool, &words, &mut set);
     boundaries_of(set, pool).filter(|_| returned == 0)
 }
 
 /// 0 less, 1 equal, 2 greater.
 fn our_order(x: Boundary, y: Boundary) -> u64 {
-    let mut out = [u32::MAX];
-    let returned = fernsponge::compare_boundaries(x.0, x.1, y.0, y.1, &mut out);
-    returned << 32 | u64::from(out[0])
+    let mut order = MARK;
+    let returned = fernsponge::compare_boundaries(x.0, x.1, y.0, y.1, &mut order);
+    returned << 32 | u64::from(order)
 }
 
 fn owned(boundaries: [Boundary; 2]) -> [(u32, Vec<u8>); 2] {

@@ -1,6 +1,7 @@
 //! Items as six words and a pool, and as the Rust's `QueryItem`; both ways, with a check of this translation itself.
 
 use crate::{
+    fernsponge::MaybeWords,
     hexadecimal, keys_of,
     query_item::QueryItem,
     table::{Against, Row},
@@ -44,6 +45,14 @@ pub fn read(words: &[u32], pool: &[u8]) -> Option<QueryItem> {
 
 pub fn six(words: &[u32]) -> Option<Words> {
     words.get(..6)?.try_into().ok()
+}
+
+/// An item or none, as our calls write it: 1 and its words, or seven times 0.
+pub fn maybe_words(item: Option<Words>) -> MaybeWords {
+    match item {
+        None => [0; 7],
+        Some([code, wrapper, a, b, c, d]) => [1, code, wrapper, a, b, c, d],
+    }
 }
 
 /// The words of an item, its keys added to the pool, if it has one wrapper at most.
@@ -121,6 +130,11 @@ pub fn end_of(words: Words, pool: &[u8]) -> Option<&[u8]> {
 pub fn keys(item: Words, pool: &[u8]) -> (&[u8], &[u8]) {
     let (start, end) = (start_of(item, pool), end_of(item, pool));
     (start.unwrap_or(&[]), end.unwrap_or(&[]))
+}
+
+/// Whether two accepted items are equal in code, wrapper and key bytes.
+pub fn same(x: Words, y: Words, pool: &[u8]) -> bool {
+    x[..2] == y[..2] && keys(x, pool) == keys(y, pool)
 }
 
 fn part(pool: &[u8], offset: u32, length: u32) -> Option<&[u8]> {

@@ -10,6 +10,10 @@ mod calls;
 mod departures;
 mod fernsponge;
 mod inputs;
+mod insert_calls;
+mod insert_differences;
+mod insertion;
+mod interval_calls;
 mod item_calls;
 mod items;
 mod key_order;
@@ -19,6 +23,9 @@ mod many;
 mod many_calls;
 mod many_refused;
 mod pair_calls;
+mod position_calls;
+mod position_differences;
+mod positions;
 mod random;
 mod refusals;
 mod stand_ins;
@@ -54,6 +61,10 @@ struct Size {
     lists: u64,
     long_lists: u64,
     longest: usize,
+    /// the keys over which every item is inserted into all lists of three items
+    inserted: usize,
+    /// the positions over which all queries of two items are tried
+    positions: usize,
 }
 
 const SHORT: Size = Size {
@@ -65,6 +76,8 @@ const SHORT: Size = Size {
     lists: 500,
     long_lists: 2,
     longest: 512,
+    inserted: 2,
+    positions: 6,
 };
 
 const LONG: Size = Size {
@@ -76,6 +89,8 @@ const LONG: Size = Size {
     lists: 10_000,
     long_lists: 6,
     longest: 2_048,
+    inserted: 4,
+    positions: 10,
 };
 
 fn main() -> ExitCode {
@@ -109,6 +124,11 @@ fn run(random: &mut Random, size: &Size) -> Vec<table::Row> {
     rows.extend(many_calls::run(random, size));
     rows.extend(many_refused::run(random, size));
     rows.extend(laws::run(random, size));
+    rows.extend(insert_calls::run(random, size));
+    rows.extend(insert_differences::run());
+    rows.extend(position_calls::run(random, size));
+    rows.extend(interval_calls::run(random, size));
+    rows.extend(position_differences::run());
     rows
 }
 

@@ -4,7 +4,7 @@
 use crate::{
     algebra::paper,
     hexadecimal,
-    inputs::{bad_items, counting_pools, damage, disorder, Keys},
+    inputs::{bad_lists, counting_pools, damage, disorder, Keys},
     items::six,
     many,
     random::Random,
@@ -58,42 +58,6 @@ fn edges(rows: &mut [Row; 2]) {
             }
         }
     }
-}
-
-/// Lists with a fault of every kind, alone, before and after others, and some with none; the pool counts up from 00.
-fn bad_lists() -> Vec<Vec<u32>> {
-    let key = |byte: u32| [0, 0, byte, 1, 0, 0];
-    let range = |from: u32, to: u32| [2, 0, from, 1, to, 1];
-    let (upside_down, unknown, outside) = (range(5, 3), [10, 0, 0, 0, 0, 0], [0, 0, 0, 256, 0, 0]);
-    let mut lists = vec![
-        vec![],
-        vec![key(1), key(5)],
-        vec![range(1, 3), range(5, 9)],
-        // not strict, at 1 or at 2
-        vec![key(5), key(3)],
-        vec![key(5), key(5)],
-        vec![range(1, 5), range(5, 9)],
-        vec![key(1), key(5), key(3)],
-        // which of two decides
-        vec![key(5), key(3), upside_down],
-        vec![upside_down, unknown],
-        vec![key(1), outside, unknown],
-        vec![key(1), unknown, outside],
-        vec![[10, 0, 0, 256, 0, 0]],
-        vec![[2, 0, 5, 1, 0, 256]],
-    ];
-    lists.extend(bad_items().map(|item| vec![item]));
-    let mut lists: Vec<Vec<u32>> = lists.iter().map(|list| list.concat()).collect();
-    // no multiple of six
-    for length in [1, 5, 7, 11] {
-        lists.push([key(1), key(5)].concat()[..length].to_vec());
-        lists.push([unknown, unknown].concat()[..length].to_vec());
-    }
-    // past the limit, in keys of two bytes that ascend
-    let many = (0..2_049).flat_map(|at| [0, 0, 256 + 2 * at, 2, 0, 0]);
-    lists.push(many.collect());
-    lists.push([unknown; 2_049].concat());
-    lists
 }
 
 /// A call with each of the rooms.

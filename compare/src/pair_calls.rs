@@ -2,19 +2,16 @@
 
 use crate::{
     algebra::{paper, rust},
-    calls::Calls,
+    calls::{place, Calls},
     fernsponge, hexadecimal,
-    inputs::{bad_items, counting_pools, damage, Pool},
-    items::{all_items, read, Words},
+    inputs::{bad_items, counting_pools, damage_word, Pool},
+    items::{all_items, item_of, maybe_words, read, Words},
     keys_of,
     random::Random,
     refusals,
     table::{Held, Row},
     Size, BYTES,
 };
-
-/// The words of the five parts, seven each.
-const PARTS: usize = 35;
 
 pub fn run(random: &mut Random, size: &Size) -> Vec<Row> {
     let mut calls = Calls::new("intersect_items", "intersect_items, refused");
@@ -25,13 +22,12 @@ pub fn run(random: &mut Random, size: &Size) -> Vec<Row> {
     edges(&mut calls);
     for _ in 0..size.random {
         let pool = Pool::new(random);
-        let mut items = [pool.item(random).to_vec(), pool.item(random).to_vec()];
+        let mut items = [pool.item(random), pool.item(random)];
         if random.below(4) == 0 {
             let side = random.below(2);
-            damage(random, &mut items[side], &pool.bytes);
+            damage_word(random, &mut items[side], &pool.bytes);
         }
-        let room = PARTS - 1 + random.below(4);
-        hold(&mut calls, &pool.bytes, &items[0], &items[1], room);
+        hold(&mut calls, &pool.bytes, items[0], items[1]);
     }
     calls.rows().into()
 }
@@ -43,51 +39,36 @@ fn all_pairs(calls: &mut Calls, keys: &[Vec<u8>]) {
         for (y, y_pool) in &items {
             let pool = [&x_pool[..], y_pool].concat();
             let y = moved(*y, x_pool.len() as u32);
-            hold(calls, &pool, x, &y, PARTS + 1);
+            hold(calls, &pool, *x, y);
         }
     }
 }
 
-/// Every fault of ours beside every fault of theirs, and every number of words up to two items, in pools and rooms at the limits.
+/// Every fault of ours beside every fault of theirs, in pools at the limits.
 fn edges(calls: &mut Calls) {
-    let rooms = [0, 6, 7, PARTS - 1, PARTS, PARTS + 1];
     for pool in &counting_pools() {
         for x in bad_items() {
             for y in bad_items() {
-                for room in rooms {
-                    hold(calls, pool, &x, &y, room);
-                }
-            }
-        }
-        let words = [2, 0, 1, 1, 5, 1, 0, 0, 0, 0, 0, 0];
-        for x in 0..13 {
-            for y in 0..13 {
-                for room in rooms {
-                    hold(calls, pool, &words[..x], &words[..y], room);
-                }
+                hold(calls, pool, x, y);
             }
         }
     }
 }
 
-fn hold(calls: &mut Calls, pool: &[u8], ours: &[u32], theirs: &[u32], room: usize) {
-    let part = |item: Option<Words>| match item {
-        None => [0; 7],
-        Some([code, wrapper, a, b, c, d]) => [1, code, wrapper, a, b, c, d],
-    };
+fn hold(calls: &mut Calls, pool: &[u8], ours: Words, theirs: Words) {
     calls.hold(
         || format!("{ours:?} and {theirs:?} in {}", hexadecimal(pool)),
-        room,
-        |out| fernsponge::intersect_items(pool, ours, theirs, out),
+        [place(); 5],
+        |parts| fernsponge::intersect_items(pool, &ours, &theirs, parts),
         refusals::pair(pool, ours, theirs)
-            .map(|[x, y]| paper::items(x, y, pool).map(part).concat()),
-        |out| Held {
-            ours: Some([0, 7, 14, 21, 28].map(|at| match out[at] {
+            .map(|()| paper::items(ours, theirs, pool).map(maybe_words)),
+        |parts| Held {
+            ours: Some(parts.map(|part| match part[0] {
                 0 => None,
-                _ => read(&out[at + 1..], pool),
+                _ => read(&part[1..], pool),
             })),
-            other: read(ours, pool)
-                .zip(read(theirs, pool))
+            other: item_of(ours, pool)
+                .zip(item_of(theirs, pool))
                 .map(|(x, y)| rust::pair(&x, &y)),
         },
     );

@@ -2,10 +2,10 @@
 
 use crate::{
     boundaries::{paper, Boundary, EXCLUSIVE_END, UNBOUNDED_END, UNBOUNDED_START},
-    items::{has_end, has_start, Words},
+    items::{has_end, has_start, keys, same, six, Words},
 };
 
-const MOST_ITEMS: usize = 2_048;
+pub const MOST_ITEMS: usize = 2_048;
 const MOST_POOL: usize = 65_536;
 const MOST_KEY: u32 = 255;
 
@@ -50,38 +50,34 @@ pub fn kinds(kinds: &[u32]) -> Checked<()> {
     }
 }
 
-/// An item on its own, in an interface that is lent words: the pool, six words, then 1 and 2.
-pub fn item(pool: &[u8], words: &[u32]) -> Checked<Words> {
+/// An item on its own: the pool, then 1 and 2.
+pub fn item(pool: &[u8], item: Words) -> Checked<()> {
     self::pool(pool)?;
-    let words = six(words, 0)?;
-    match fault(words, pool) {
-        0 => Ok(words),
+    match fault(item, pool) {
+        0 => Ok(()),
         number => refuse(number, 0, 0),
     }
 }
 
-/// Two boundaries in a pool: the pool, six words, the kinds, then 2. An unbounded one has no key, and its words are not read.
-pub fn set(pool: &[u8], words: &[u32]) -> Checked<Words> {
+/// Two boundaries in a pool: the pool, the kinds, then 2. An unbounded one has no key, and its words are not read.
+pub fn set(pool: &[u8], words: Words) -> Checked<()> {
     self::pool(pool)?;
-    let words = six(words, 0)?;
     kinds(&words[..2])?;
     let bounded = |kind: u32| kind != UNBOUNDED_START && kind != UNBOUNDED_END;
     let start_out = bounded(words[0]) && key_out(pool, words[2], words[3]);
     let end_out = bounded(words[1]) && key_out(pool, words[4], words[5]);
     match start_out || end_out {
         true => refuse(2, 0, 0),
-        false => Ok(words),
+        false => Ok(()),
     }
 }
 
-/// Two items of the algebra, in an interface that is lent words: six words each, the pool, then 1, 2 and 3 of ours and those of theirs.
-pub fn pair(pool: &[u8], ours: &[u32], theirs: &[u32]) -> Checked<[Words; 2]> {
-    let items = [six(ours, 0)?, six(theirs, 1)?];
+/// Two items of the algebra: the pool, then 1, 2 and 3 of ours and those of theirs.
+pub fn pair(pool: &[u8], ours: Words, theirs: Words) -> Checked<()> {
     self::pool(pool)?;
-    for (side, item) in (0..).zip(items) {
-        upright(item, pool, side, 0)?;
-    }
-    Ok(items)
+    upright(ours, pool, 0, 0)?;
+    upright(theirs, pool, 1, 0)?;
+    Ok(())
 }
 
 /// Two lists for the algebra: the pool, ours entirely, theirs entirely.
@@ -93,12 +89,10 @@ pub fn lists(pool: &[u8], ours: &[u32], theirs: &[u32]) -> Checked<()> {
 /// A list for the algebra: the pool, the shape, each item's 1, 2 and 3, and then 4.
 pub fn list(pool: &[u8], words: &[u32], side: u64) -> Checked<()> {
     self::pool(pool)?;
-    if words.len() % 6 != 0 || words.len() / 6 > MOST_ITEMS {
-        return refuse(1, side, 0);
-    }
+    shape(words, side)?;
     let mut ranges = vec![];
-    for (index, item) in words.chunks(6).enumerate() {
-        ranges.push(upright(six(item, side)?, pool, side, index)?);
+    for (index, item) in words.chunks(6).filter_map(six).enumerate() {
+        ranges.push(upright(item, pool, side, index)?);
     }
     for index in 1..ranges.len() {
         if paper::order(ranges[index - 1][1], ranges[index][0]).is_ge() {
@@ -106,6 +100,82 @@ pub fn list(pool: &[u8], words: &[u32], side: u64) -> Checked<()> {
         }
     }
     Ok(())
+}
+
+/// A list for insertion, the first so many items of a buffer, and the new item: the pool, the count, each item's 1, 2 and 3, then 4; then 1,
+/// 2 and 3 of the new item.
+pub fn insertion(pool: &[u8], words: &[u32], count: usize, item: Words) -> Checked<()> {
+    self::pool(pool)?;
+    if count > words.len() / 6 || count > MOST_ITEMS {
+        return refuse(1, 0, 0);
+    }
+    let mut list = vec![];
+    for (index, old) in words.chunks(6).take(count).filter_map(six).enumerate() {
+        list.push((old, upright(old, pool, 0, index)?));
+    }
+    for (index, later) in list.iter().enumerate() {
+        if list[..index].iter().any(|old| clash(old, later, pool)) {
+            return refuse(4, 0, index);
+        }
+    }
+    upright(item, pool, 1, 0)?;
+    Ok(())
+}
+
+/// Whether an item may not stand after an earlier one: it sorts below it, or both are plain and it does not start above the earlier one's end,
+/// or the two are equal.
+fn clash(
+    (old, old_range): &(Words, [Boundary; 2]),
+    (new, new_range): &(Words, [Boundary; 2]),
+    pool: &[u8],
+) -> bool {
+    let below = paper::compare_items(*new_range, *old_range).is_lt();
+    let plain = old[1] == 0 && new[1] == 0;
+    let above = paper::order(new_range[0], old_range[1]).is_gt();
+    below || (plain && !above) || same(*old, *new, pool)
+}
+
+/// The items of a position query: the pool, the shape, then 1, 2, 5 and 7 of each.
+pub fn position_items(pool: &[u8], words: &[u32]) -> Checked<()> {
+    self::pool(pool)?;
+    shape(words, 0)?;
+    for (index, item) in words.chunks(6).filter_map(six).enumerate() {
+        let no_position = |key: &[u8]| key.len() != 8;
+        let (a, b) = keys(item, pool);
+        let number = match fault(item, pool) {
+            0 if item[1] != 0 => 5,
+            0 if has_start(item[0]) && no_position(a) => 7,
+            0 if has_end(item[0]) && no_position(b) => 7,
+            number => number,
+        };
+        if number != 0 {
+            return refuse(number, 0, index);
+        }
+    }
+    Ok(())
+}
+
+/// Intervals: 1 for an odd number of words, then 9 for the first pair that does not start below its end and above the end before it.
+pub fn intervals(words: &[u64]) -> Checked<()> {
+    if words.len() % 2 != 0 {
+        return refuse(1, 0, 0);
+    }
+    for (index, pair) in words.chunks(2).enumerate() {
+        let apart = index == 0 || words[2 * index - 1] < pair[0];
+        if !apart || pair[0] >= pair[1] {
+            return refuse(9, 0, index);
+        }
+    }
+    Ok(())
+}
+
+/// Proved positions beside intervals: 8 for the first that is not above the one before it.
+pub fn proved(intervals: &[u64], proved: &[u64]) -> Checked<()> {
+    self::intervals(intervals)?;
+    match (1..proved.len()).find(|at| proved[*at] <= proved[at - 1]) {
+        Some(index) => refuse(8, 1, index),
+        None => Ok(()),
+    }
 }
 
 /// The range of an item that has neither 1 nor 2 nor 3.
@@ -121,10 +191,11 @@ fn upright(item: Words, pool: &[u8], side: u64, index: usize) -> Checked<[Bounda
     }
 }
 
-fn six(words: &[u32], side: u64) -> Checked<Words> {
-    match words.try_into() {
-        Ok(words) => Ok(words),
-        Err(_) => refuse(1, side, 0),
+/// Whole items, and no more than a list may have.
+fn shape(words: &[u32], side: u64) -> Checked<()> {
+    match words.len() % 6 != 0 || words.len() / 6 > MOST_ITEMS {
+        true => refuse(1, side, 0),
+        false => Ok(()),
     }
 }
 

@@ -80,11 +80,31 @@ impl<P> Against<(), P> {
     }
 }
 
+impl<A: Clone> Against<A, [A; 2]> {
+    /// An input of docs/DIFFERENCES.md: our answer and the Rust's, and what stands there of the two.
+    pub fn differences(ours: A, rust: A, stated: [A; 2]) -> Self {
+        Self {
+            rust: Some(Held {
+                ours: ours.clone(),
+                other: rust.clone(),
+            }),
+            paper: Some(Held {
+                ours: [ours, rust],
+                other: stated,
+            }),
+            listed: true,
+        }
+    }
+}
+
 impl<R: Debug, P: Debug> Against<R, P> {
-    fn print(&self) {
+    fn print_rust(&self) {
         if let Some(Held { ours, other }) = &self.rust {
             println!("    ours {ours:?}\n    the Rust {other:?}");
         }
+    }
+
+    fn print_paper(&self) {
         if let Some(Held { ours, other }) = &self.paper {
             println!("    ours {ours:?}\n    document 01 {other:?}");
         }
@@ -116,7 +136,7 @@ impl Row {
             self.listed += 1;
             if self.listed == 1 {
                 println!("{} differs as listed, first on {}", self.name, input());
-                against.print();
+                against.print_rust();
             }
         }
         if as_paper && (as_rust || against.listed) {
@@ -125,7 +145,8 @@ impl Row {
         self.failures += 1;
         if self.failures <= MOST_PRINTED {
             println!("{} fails on {}", self.name, input());
-            against.print();
+            against.print_rust();
+            against.print_paper();
         }
     }
 

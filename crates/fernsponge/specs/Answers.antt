@@ -1,10 +1,7 @@
--- The numbers that stand for answers in the C interface, and how a call gives them back. Definitions only. Assumes nothing.
+-- The numbers that stand for answers in the C interface, and what a call returns and leaves. Definitions only. Assumes nothing.
 use Prim.Native.Nat.{ℕ, _+_, _*_, min}
-use mathlib.Core.Path.{_≡_}
 use mathlib.Core.List.{List, [], _∷_}
 use mathlib.Core.Bool.{Bool, cond}
-use lib.ListN.{length}
-use lib.Seq.{sets}
 use lib.Dec.{leb, eqb}
 use Rattle.key_order.specs.declared.Ordering.{Ordering}
 use Rattle.key_order.specs.declared.Ordering.the-variants.{Less, Equal, Greater}
@@ -15,7 +12,7 @@ use Rattle.query_item.specs.declared.RangeSet.{RangeSet}
 use Rattle.query_item.specs.declared.MaybeItem.{MaybeItem}
 use Rattle.query_item.specs.declared.MaybeItem.the-variants.{NoItem, Item}
 use Rattle.item_ask.specs.declared.KeyContainmentResult.{KeyContainmentResult}
-use Rattle.query_item.specs.Items.{itemWords, wordsOf, flat}
+use Rattle.query_item.specs.Items.{absent, itemWords, wordsOf, flat}
 use Rattle.query_item.specs.Boundaries.{kindOf, keyOf, withKey, fromTo}
 use Rattle.item_check.specs.Checks.{Answer, answered, refused}
 
@@ -50,6 +47,8 @@ kindNumbered n =
     (cond (eqb n 3) ExclusiveStart
     ExclusiveEnd)))
 
+-- ---- six words, and seven
+
 -- two boundaries as six words, laid out as an item's: the kinds of start and end for code and wrapper, then both keys.
 -- The key words of an unbounded one are written as 0, and not read
 
@@ -59,55 +58,46 @@ setWords s = itemWords (kindNumber (kindOf (s .start))) (kindNumber (kindOf (s .
 unfoldable pub setOfWords : ItemWords → RangeSet
 setOfWords it = fromTo (withKey (kindNumbered (it .code)) (it .start)) (withKey (kindNumbered (it .wrapper)) (it .end))
 
--- ---- the numbers of each answer
-
--- six: the boundaries
 abbrev pub setNumbers : RangeSet → List ℕ
 setNumbers s = flat (setWords s)
 
--- how many items there are, and the words of the one, which is plain: so many numbers
-abbrev pub maybeSize : ℕ
-maybeSize = 7
+-- an item that may be missing: 1 and its words, which are plain, or seven times 0
 
-abbrev pub itemNumbers : MaybeItem → List ℕ
-itemNumbers NoItem = 0 ∷ []
-itemNumbers (Item q) = 1 ∷ flat (wordsOf 0 q)
+abbrev pub maybeCount : MaybeItem → ℕ
+maybeCount NoItem = 0
+maybeCount (Item q) = 1
+
+abbrev pub maybeWords : MaybeItem → ItemWords
+maybeWords NoItem = itemWords 0 0 absent absent
+maybeWords (Item q) = wordsOf 0 q
+
+abbrev pub maybeNumbers : MaybeItem → List ℕ
+maybeNumbers m = maybeCount m ∷ flat (maybeWords m)
 
 -- two: the key is held; it sits on an exclusive bound
 abbrev pub containmentNumbers : KeyContainmentResult → List ℕ
 containmentNumbers c = boolNumber (c .included) ∷ boolNumber (c .«on_bounds_not_included») ∷ []
 
--- one: yes or no
-abbrev pub directionNumbers : Bool → List ℕ
-directionNumbers b = boolNumber b ∷ []
-
-abbrev pub inNumbers : {A : Type 0} → (A → List ℕ) → Answer A → Answer (List ℕ)
-inNumbers numbers (answered a) = answered (numbers a)
-inNumbers numbers (refused number side index) = refused number side index
-
--- ---- refusals
+-- ---- what a call returns, and what it leaves
 
 -- a greater index is told as 2 ^ 40, so that the number fits 64 bits; no accepted list has so many items
 abbrev pub mostIndex : ℕ
 mostIndex = 1099511627776
 
--- a refusal as one number; 0 is acceptance
+-- a refusal as one number
 abbrev pub refusalNumber : ℕ → ℕ → ℕ → ℕ
 refusalNumber number side index = number + 256 * side + 65536 * min index mostIndex
 
--- ---- what a call gives back
+-- the returned number: 0 is acceptance
+abbrev pub returned : {A : Type 0} → Answer A → ℕ
+returned (answered a) = 0
+returned (refused number side index) = refusalNumber number side index
 
--- the returned number: 0, or a refusal, 6 as the last where fewer words are lent than the answer has numbers
-abbrev pub returned : Answer (List ℕ) → List ℕ → ℕ
-returned (answered ns) out = cond (leb (length ns) (length out)) 0 (refusalNumber 6 0 0)
-returned (refused number side index) out = refusalNumber number side index
+-- a place lent for a value of the answer: the value; where the call refuses, what it held before
+abbrev pub left : {A : Type 0} → {B : Type 0} → (A → B) → Answer A → B → B
+left value (answered a) held = value a
+left value (refused number side index) held = held
 
--- the lent words: the answer's numbers at their front, and the others stay; where the call refuses, with 6 too, all stay
-abbrev pub lent : Answer (List ℕ) → List ℕ → List ℕ
-lent (answered ns) out = cond (leb (length ns) (length out)) (sets out 0 ns) out
-lent (refused number side index) out = out
-
--- a call gives an answer back: it returns r, and the lent words, out at its entry, are left as they have to be
-pub record Gives (answer : Answer (List ℕ)) (out : List ℕ) (r : ℕ) (left : List ℕ) : Type 0 where
-  pub number : r ≡ returned answer out
-  pub words : left ≡ lent answer out
+-- a number that is told as it is
+abbrev pub itself : ℕ → ℕ
+itself n = n

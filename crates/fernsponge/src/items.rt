@@ -1,131 +1,176 @@
 // Module 2. A kind of a boundary is a number, 0 UnboundedStart, 1 UnboundedEnd, 2 Inclusive, 3 ExclusiveStart, 4 ExclusiveEnd, and any
-// other is refused with 1. A single item is six words, and two boundaries are six words too: the kinds of start and end stand for code and
-// wrapper, and the words of an unbounded one's key are not read. Another number of words is refused with 1.
+// other is refused with 1. An item is six words, and two boundaries are six words too: the kinds of start and end stand for code and
+// wrapper, and the words of an unbounded one's key are not read.
 ghost use mathlib.Core.Path.{_≡_};
-ghost use Rattle.fernsponge.specs.Answers.{Gives};
-ghost use Rattle.fernsponge.specs.Calls.{compareAnswer, invertAnswer, rangeSetAnswer, queryItemAnswer, containsAnswer, inDirectionAnswer, listNumber, directionOfFlag};
-use crate::answer::MALFORMED;
-use crate::answer::bool_number;
-use crate::answer::give_containment;
-use crate::answer::give_direction;
-use crate::answer::give_maybe_item;
-use crate::answer::give_one;
-use crate::answer::give_range;
-use crate::answer::is_kind;
-use crate::answer::kind_number;
-use crate::answer::kind_numbered;
-use crate::answer::order_number;
-use crate::answer::refusal_number;
-use crate::answer::set_of_words;
+ghost use Rattle.query_item.specs.Items.{itemAt};
+ghost use Rattle.item_check.specs.Checks.{checkVerdict};
+ghost use Rattle.item_ask.specs.Calls.{itemAnswerOf, toRangeSetAnswer, containmentAnswer, directionAnswer};
+ghost use Rattle.fernsponge.specs.Answers.{orderNumber, boolNumber, kindNumber, setNumbers, maybeNumbers, containmentNumbers, returned, left};
+ghost use Rattle.fernsponge.specs.Calls.{compareAnswer, invertAnswer, betweenAnswer, directionOfFlag};
+use crate::numbers::MALFORMED;
+use crate::numbers::MAYBE_SIZE;
+use crate::numbers::bool_number;
+use crate::numbers::containment_numbers;
+use crate::numbers::is_kind;
+use crate::numbers::kind_number;
+use crate::numbers::kind_numbered;
+use crate::numbers::maybe_numbers;
+use crate::numbers::order_number;
+use crate::numbers::refusal_number;
+use crate::numbers::set_numbers;
+use crate::numbers::set_of_words;
+use item_ask::Containment;
 use item_ask::Direction;
+use item_ask::InDirection;
+use item_ask::ItemAnswer;
+use item_ask::RangeAnswer;
 use item_ask::could_contain_key;
 use item_ask::could_have_items_in_direction;
 use item_ask::to_query_item;
 use item_ask::to_range_set;
 use item_check::Checked;
 use item_check::check_list;
+use query_item::MaybeItem;
 use query_item::boundary::compare_boundaries;
 use query_item::boundary::invert;
 use query_item::item::ITEM_SIZE;
 use query_item::item::item_at;
 
-// One number: how a boundary of the kind left at the key a stands to one of the kind right at b: 0 less, 1 equal, 2 greater.
+// How a boundary of one kind at the key a stands to one of another at b: 0 less, 1 equal, 2 greater.
 #[no_mangle]
 pub extern "C" fn fernsponge_compare_boundaries(
-    left: u32,
+    kind_a: u32,
     a: &[u8],
-    right: u32,
+    kind_b: u32,
     b: &[u8],
-    out: &mut [u32],
+    order: &mut u32,
 ) -> u64
-    ensures { λ r. ⌜ Gives (compareAnswer left (now (a .entry)) right (now (b .entry))) (now (out .entry)) r (now (out .exit)) ⌝ }
+    ensures { λ r. ⌜ r ≡ returned (compareAnswer «kind_a» (now (a .entry)) «kind_b» (now (b .entry))) ⌝ }
+    ensures { λ _. ⌜ now (order .exit) ≡ left orderNumber (compareAnswer «kind_a» (now (a .entry)) «kind_b» (now (b .entry))) (now (order .entry)) ⌝ }
 {
-    if is_kind(left) & is_kind(right) {
-        return give_one(
-            out,
-            order_number(compare_boundaries(kind_numbered(left), a, kind_numbered(right), b)),
-        );
+    if is_kind(kind_a) & is_kind(kind_b) {
+        *order = order_number(compare_boundaries(
+            kind_numbered(kind_a),
+            a,
+            kind_numbered(kind_b),
+            b,
+        ));
+        return 0;
     }
     MALFORMED
 }
 
-// One number: the kind of the inverted boundary, as a start or as an end.
+// The kind of the inverted boundary, as a start or as an end.
 #[no_mangle]
-pub extern "C" fn fernsponge_invert(kind: u32, is_start: bool, out: &mut [u32]) -> u64
-    ensures { λ r. ⌜ Gives (invertAnswer kind «is_start») (now (out .entry)) r (now (out .exit)) ⌝ }
+pub extern "C" fn fernsponge_invert(kind: u32, is_start: bool, inverted: &mut u32) -> u64
+    ensures { λ r. ⌜ r ≡ returned (invertAnswer kind «is_start») ⌝ }
+    ensures { λ _. ⌜ now (inverted .exit) ≡ left kindNumber (invertAnswer kind «is_start») (now (inverted .entry)) ⌝ }
 {
     if is_kind(kind) {
-        return give_one(out, kind_number(invert(kind_numbered(kind), is_start)));
+        *inverted = kind_number(invert(kind_numbered(kind), is_start));
+        return 0;
     }
     MALFORMED
 }
 
-// Six numbers: the two boundaries of an item.
+// The two boundaries of an item.
 #[no_mangle]
-pub extern "C" fn fernsponge_to_range_set(pool: &[u8], item: &[u32], out: &mut [u32]) -> u64
-    ensures { λ r. ⌜ Gives (rangeSetAnswer (now (pool .entry)) (now (item .entry))) (now (out .entry)) r (now (out .exit)) ⌝ }
+pub extern "C" fn fernsponge_to_range_set(
+    pool: &[u8],
+    item: &[u32; ITEM_SIZE],
+    range: &mut [u32; ITEM_SIZE],
+) -> u64
+    ensures { λ r. ⌜ r ≡ returned (toRangeSetAnswer (now (pool .entry)) (itemAt (now (item .entry)) 0)) ⌝ }
+    ensures { λ _. ⌜ now (range .exit) ≡ left setNumbers (toRangeSetAnswer (now (pool .entry)) (itemAt (now (item .entry)) 0)) (now (range .entry)) ⌝ }
 {
-    if item.len() != ITEM_SIZE {
-        return MALFORMED;
+    match to_range_set(pool, item_at(item, 0)) {
+        RangeAnswer::Range(set) => {
+            *range = set_numbers(set);
+            0
+        }
+        RangeAnswer::Refused(refusal) => refusal_number(refusal),
     }
-    give_range(out, to_range_set(pool, item_at(item, 0)))
 }
 
-// One number, 0, where two boundaries have no item; else seven: 1, and the words of their item.
+// The item of two boundaries, which may be missing.
 #[no_mangle]
-pub extern "C" fn fernsponge_to_query_item(pool: &[u8], set: &[u32], out: &mut [u32]) -> u64
-    ensures { λ r. ⌜ Gives (queryItemAnswer (now (pool .entry)) (now (set .entry))) (now (out .entry)) r (now (out .exit)) ⌝ }
+pub extern "C" fn fernsponge_to_query_item(
+    pool: &[u8],
+    range: &[u32; ITEM_SIZE],
+    item: &mut [u32; MAYBE_SIZE],
+) -> u64
+    ensures { λ r. ⌜ r ≡ returned (betweenAnswer (now (pool .entry)) (itemAt (now (range .entry)) 0)) ⌝ }
+    ensures { λ _. ⌜ now (item .exit) ≡ left maybeNumbers (betweenAnswer (now (pool .entry)) (itemAt (now (range .entry)) 0)) (now (item .entry)) ⌝ }
 {
-    if set.len() != ITEM_SIZE {
-        return MALFORMED;
-    }
-    let words = item_at(set, 0);
+    let words = item_at(range, 0);
     if is_kind(words.code) & is_kind(words.wrapper) {
-        return give_maybe_item(out, to_query_item(pool, set_of_words(words)));
+        return give_item(to_query_item(pool, set_of_words(words)), item);
     }
     MALFORMED
+}
+
+fn give_item(answer: ItemAnswer, item: &mut [u32; MAYBE_SIZE]) -> u64
+    ensures { λ r. ⌜ r ≡ returned (itemAnswerOf answer) ⌝ }
+    ensures { λ _. ⌜ now (item .exit) ≡ left maybeNumbers (itemAnswerOf answer) (now (item .entry)) ⌝ }
+{
+    match answer {
+        ItemAnswer::NoItem => {
+            *item = maybe_numbers(MaybeItem::NoItem);
+            0
+        }
+        ItemAnswer::Item(q) => {
+            *item = maybe_numbers(MaybeItem::Item(q));
+            0
+        }
+        ItemAnswer::Refused(refusal) => refusal_number(refusal),
+    }
 }
 
 // Two numbers, 1 for yes and 0 for no: whether an item holds a key, and whether the key sits on an exclusive bound.
 #[no_mangle]
 pub extern "C" fn fernsponge_could_contain_key<'a>(
     pool: &'a [u8],
-    item: &[u32],
+    item: &[u32; ITEM_SIZE],
     key: &'a [u8],
-    out: &mut [u32],
+    held: &mut [u32; 2],
 ) -> u64
-    ensures { λ r. ⌜ Gives (containsAnswer (now (pool .entry)) (now (item .entry)) (now (key .entry))) (now (out .entry)) r (now (out .exit)) ⌝ }
+    ensures { λ r. ⌜ r ≡ returned (containmentAnswer (now (pool .entry)) (itemAt (now (item .entry)) 0) (now (key .entry))) ⌝ }
+    ensures { λ _. ⌜ now (held .exit) ≡ left containmentNumbers (containmentAnswer (now (pool .entry)) (itemAt (now (item .entry)) 0) (now (key .entry))) (now (held .entry)) ⌝ }
 {
-    if item.len() != ITEM_SIZE {
-        return MALFORMED;
+    match could_contain_key(pool, item_at(item, 0), key) {
+        Containment::Contains(c) => {
+            *held = containment_numbers(c);
+            0
+        }
+        Containment::Refused(refusal) => refusal_number(refusal),
     }
-    give_containment(out, could_contain_key(pool, item_at(item, 0), key))
 }
 
-// One number, 1 for yes and 0 for no: whether keys that an item holds may stand left of a key, or else right of it.
+// 1 for yes and 0 for no: whether keys that an item holds may stand left of a key, or else right of it.
 #[no_mangle]
 pub extern "C" fn fernsponge_could_have_items_in_direction<'a>(
     pool: &'a [u8],
-    item: &[u32],
+    item: &[u32; ITEM_SIZE],
     key: &'a [u8],
-    left: bool,
-    out: &mut [u32],
+    to_left: bool,
+    yes: &mut u32,
 ) -> u64
-    ensures { λ r. ⌜ Gives (inDirectionAnswer (now (pool .entry)) (now (item .entry)) (now (key .entry)) left) (now (out .entry)) r (now (out .exit)) ⌝ }
+    ensures { λ r. ⌜ r ≡ returned (directionAnswer (now (pool .entry)) (itemAt (now (item .entry)) 0) (now (key .entry)) (directionOfFlag «to_left»)) ⌝ }
+    ensures { λ _. ⌜ now (yes .exit) ≡ left boolNumber (directionAnswer (now (pool .entry)) (itemAt (now (item .entry)) 0) (now (key .entry)) (directionOfFlag «to_left»)) (now (yes .entry)) ⌝ }
 {
-    if item.len() != ITEM_SIZE {
-        return MALFORMED;
+    match could_have_items_in_direction(pool, item_at(item, 0), key, direction(to_left)) {
+        InDirection::Answered(answer) => {
+            *yes = bool_number(answer);
+            0
+        }
+        InDirection::Refused(refusal) => refusal_number(refusal),
     }
-    give_direction(
-        out,
-        could_have_items_in_direction(pool, item_at(item, 0), key, direction(left)),
-    )
 }
 
-// Whether a list can be used in the algebra, as ours or as theirs: the refusal, or 0.
+// Whether a list can be used in the algebra, as ours or as theirs.
 #[no_mangle]
 pub extern "C" fn fernsponge_check_list(pool: &[u8], words: &[u32], theirs: bool) -> u64
-    ensures { λ r. ⌜ r ≡ listNumber (now (pool .entry)) (now (words .entry)) theirs ⌝ }
+    ensures { λ r. ⌜ r ≡ returned (checkVerdict (now (pool .entry)) (now (words .entry)) (boolNumber theirs)) ⌝ }
 {
     match check_list(pool, words, bool_number(theirs)) {
         Checked::Accepted => 0,
@@ -133,10 +178,10 @@ pub extern "C" fn fernsponge_check_list(pool: &[u8], words: &[u32], theirs: bool
     }
 }
 
-fn direction(left: bool) -> Direction
-    ensures { λ r. ⌜ r ≡ directionOfFlag left ⌝ }
+fn direction(to_left: bool) -> Direction
+    ensures { λ r. ⌜ r ≡ directionOfFlag «to_left» ⌝ }
 {
-    if left {
+    if to_left {
         Direction::LeftOf
     } else {
         Direction::RightOf

@@ -1,19 +1,22 @@
 // The C interface: thin exported functions over the other crates, for Rust or C to link. A lent slice is an address and a length, lent
 // numbers of a known count are an address alone, and what is lent for writing may not overlap anything else; a bool is 0 or 1.
 //
-// A call that may refuse returns the refusal as number + 256 · side + 65,536 · index, or 0. The numbers of its answer go to the front of
-// the words lent as `out`. Where fewer are lent than the answer has numbers, it is refused with 6; a refused call writes nothing. A call
-// that refuses nothing returns its answer. Definitions: specs/Answers.antt (numbers), specs/Calls.antt (calls of modules 1 and 2),
-// specs/Intersect.antt (modules 3 and 4). Laws: proofs/Laws.antt.
-mod answer;
+// A call that may refuse returns the refusal as number + 256 · side + 65,536 · index, or 0, and writes its answer to the places lent for it
+// only where it returns 0. A place for an answer of fixed size has that size, so that 6 is want of room for a list, pairs or a text alone. An
+// item that may be missing is seven words: 1 and its words, or seven times 0. A call that refuses nothing returns its answer.
+// Definitions: specs/Answers.antt (numbers, what is returned and left), specs/Calls.antt (kinds as numbers), specs/Intersect.antt (modules 3
+// and 4), specs/Positions.antt (module 6). Laws: proofs/Laws.antt.
+pub mod insertion;
 pub mod items;
 pub mod many;
+mod numbers;
 pub mod pair;
+pub mod positions;
 
 ghost use mathlib.Core.Path.{_≡_};
 ghost use Rattle.key_order.specs.Order.{compareKeys, smaller};
 ghost use Rattle.fernsponge.specs.Answers.{orderNumber};
-use crate::answer::order_number;
+use crate::numbers::order_number;
 
 // How a stands to b: 0 less, 1 equal, 2 greater.
 #[no_mangle]

@@ -1,8 +1,8 @@
 // Module 4. The three counts have a place of their own, which is always large enough.
 ghost use Rattle.fernsponge.specs.Intersect.{GivesMany};
-use crate::answer::refusal_number;
-use intersect::ManyAnswer;
-use intersect::many::intersect_many_ordered;
+use crate::numbers::refusal_number;
+use intersect_many::ManyAnswer;
+use intersect_many::intersect_many_ordered;
 
 // What two lists share, what ours keeps without theirs, and what theirs keeps without ours, as items at the front of both, mine and yours,
 // and how many items each of these has, as three numbers.

@@ -1,101 +1,43 @@
-// Module 3. Each item is six words, and another number of words is refused with 1, its side and 0, before all else.
-ghost use mathlib.Core.Path.{_≡_};
-ghost use Prim.Native.Nat.{_+_, _≤_};
-ghost use lib.ListN.{length};
-ghost use lib.Seq.{sets};
-ghost use Rattle.item_check.specs.Checks.{answered};
-ghost use Rattle.intersect.specs.Pair.{pairOf};
-ghost use Rattle.fernsponge.specs.Answers.{maybeSize, inNumbers, Gives};
-ghost use Rattle.fernsponge.specs.Intersect.{partNumbers, pairNumbers, intersectAnswer};
-use crate::answer::MALFORMED;
-use crate::answer::MAYBE_SIZE;
-use crate::answer::NO_ROOM;
-use crate::answer::put_maybe;
-use crate::answer::refusal_number;
+// Module 3.
+ghost use Rattle.query_item.specs.Items.{itemAt};
+ghost use Rattle.intersect.specs.Pair.{pairAnswer};
+ghost use Rattle.fernsponge.specs.Intersect.{GivesPair};
+use crate::numbers::MAYBE_SIZE;
+use crate::numbers::maybe_numbers;
+use crate::numbers::refusal_number;
 use intersect::PairAnswer;
-use intersect::QueryItemIntersectionResult;
 use intersect::pair::intersect_items;
-use query_item::ItemWords;
-use query_item::KeyAt;
-use query_item::MaybeItem;
 use query_item::item::ITEM_SIZE;
 use query_item::item::item_at;
-use query_item::item::words_of;
 
-// Theirs is malformed: number 1, side 1, index 0.
-const THEIRS_MALFORMED: u64 = 257;
-
-// Thirty-five numbers, seven for each part: what two items share, what is left over of ours on the left and on the right, and so of
-// theirs. A part is 1 and the words of its item, or seven times 0.
+// What two items share, what is left over of ours on the left and on the right, and so of theirs: five items, each of which may be missing.
 #[no_mangle]
 pub extern "C" fn fernsponge_intersect_items(
     pool: &[u8],
-    ours: &[u32],
-    theirs: &[u32],
-    out: &mut [u32],
+    ours: &[u32; ITEM_SIZE],
+    theirs: &[u32; ITEM_SIZE],
+    in_both: &mut [u32; MAYBE_SIZE],
+    ours_left: &mut [u32; MAYBE_SIZE],
+    ours_right: &mut [u32; MAYBE_SIZE],
+    theirs_left: &mut [u32; MAYBE_SIZE],
+    theirs_right: &mut [u32; MAYBE_SIZE],
 ) -> u64
-    ensures { λ r. ⌜ Gives (intersectAnswer (now (pool .entry)) (now (ours .entry)) (now (theirs .entry))) (now (out .entry)) r (now (out .exit)) ⌝ }
+    ensures { λ r. ⌜ GivesPair (pairAnswer (now (pool .entry)) (itemAt (now (ours .entry)) 0) (itemAt (now (theirs .entry)) 0)) (now («in_both» .entry)) (now («ours_left» .entry)) (now («ours_right» .entry)) (now («theirs_left» .entry)) (now («theirs_right» .entry)) r (now («in_both» .exit)) (now («ours_left» .exit)) (now («ours_right» .exit)) (now («theirs_left» .exit)) (now («theirs_right» .exit)) ⌝ }
 {
-    if ours.len() != ITEM_SIZE {
-        return MALFORMED;
-    }
-    if theirs.len() != ITEM_SIZE {
-        return THEIRS_MALFORMED;
-    }
-    give_pair(
-        out,
-        intersect_items(pool, item_at(ours, 0), item_at(theirs, 0)),
-    )
-}
-
-fn give_pair(out: &mut [u32], answer: PairAnswer) -> u64
-    ensures { λ r. ⌜ Gives (inNumbers pairNumbers (pairOf answer)) (now (out .entry)) r (now (out .exit)) ⌝ }
-{
-    match answer {
-        PairAnswer::Pair(parts) => give_parts(out, parts),
+    match intersect_items(pool, item_at(ours, 0), item_at(theirs, 0)) {
+        PairAnswer::Pair(parts) => {
+            let shared = parts.in_both;
+            let a = parts.ours_left;
+            let b = parts.ours_right;
+            let c = parts.theirs_left;
+            let d = parts.theirs_right;
+            *in_both = maybe_numbers(shared);
+            *ours_left = maybe_numbers(a);
+            *ours_right = maybe_numbers(b);
+            *theirs_left = maybe_numbers(c);
+            *theirs_right = maybe_numbers(d);
+            0
+        }
         PairAnswer::Refused(refusal) => refusal_number(refusal),
-    }
-}
-
-fn give_parts(out: &mut [u32], parts: QueryItemIntersectionResult) -> u64
-    ensures { λ r. ⌜ Gives (answered (pairNumbers parts)) (now (out .entry)) r (now (out .exit)) ⌝ }
-{
-    if out.len() < 5 * MAYBE_SIZE {
-        return NO_ROOM;
-    }
-    let in_both = parts.in_both;
-    let ours_left = parts.ours_left;
-    let ours_right = parts.ours_right;
-    let theirs_left = parts.theirs_left;
-    let theirs_right = parts.theirs_right;
-    put_part(out, 0, in_both);
-    put_part(out, MAYBE_SIZE, ours_left);
-    put_part(out, 2 * MAYBE_SIZE, ours_right);
-    put_part(out, 3 * MAYBE_SIZE, theirs_left);
-    put_part(out, 4 * MAYBE_SIZE, theirs_right);
-    0
-}
-
-fn put_part(out: &mut [u32], at: usize, part: MaybeItem)
-    requires { ⌜ at + maybeSize ≤ length (now out) ⌝ }
-    ensures { λ _. ⌜ now (out .exit) ≡ sets (now (out .entry)) at (partNumbers part) ⌝ }
-{
-    let none = KeyAt {
-        offset: 0,
-        length: 0,
-    };
-    match part {
-        MaybeItem::NoItem => put_maybe(
-            out,
-            at,
-            0,
-            ItemWords {
-                code: 0,
-                wrapper: 0,
-                start: none,
-                end: none,
-            },
-        ),
-        MaybeItem::Item(q) => put_maybe(out, at, 1, words_of(0, q)),
     }
 }

@@ -8,9 +8,8 @@ use Rattle.key_order.specs.Boundary.{compareBoundaries}
 use Rattle.query_item.specs.declared.KeyAt.{KeyAt}
 use Rattle.query_item.specs.declared.ItemWords.{ItemWords}
 use Rattle.query_item.specs.Items.{keyAt, absent, itemWords}
-use Rattle.item_check.specs.Checks.{refused}
-use Rattle.insert.specs.Insertion.{orderItems, sameItem, endsBelow, clashes, fateOf, staying, merged, mergedWith, placed, inserted}
-use Rattle.insert.specs.Answers.{firstClash, orderVerdict}
+use Rattle.insert_order.specs.Order.{orderItems, sameItem, endsBelow}
+use Rattle.insert.specs.Insertion.{fateOf, staying, merged, mergedWith, placed, inserted}
 
 abbrev pool : List ℕ
 pool = 1 ∷ 3 ∷ 5 ∷ 9 ∷ 2 ∷ 4 ∷ 5 ∷ []
@@ -28,11 +27,6 @@ range w a b = itemWords 1 w (at a) (at b)
 
 abbrev closed : ℕ → ℕ → ℕ → ItemWords
 closed w a b = itemWords 2 w (at a) (at b)
-
--- A6: [04,09] clashes with [01,05], past the wrapped [02,03] between them
-past-wrapped : orderVerdict pool (closed 0 0 2 ∷ closed 1 4 1 ∷ closed 0 5 3 ∷ []) ≡ refused 4 0 2
-unfolding firstClash clashes orderItems sameItem endsBelow compareBoundaries compareKeys compareNumbers
-past-wrapped = refl
 
 -- A7: an equal item is taken out and put anew
 put-anew : inserted pool (closed 0 0 1) (closed 1 0 1 ∷ closed 0 0 1 ∷ []) ≡ closed 0 0 1 ∷ closed 1 0 1 ∷ []

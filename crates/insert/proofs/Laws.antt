@@ -10,16 +10,19 @@ use Rattle.key_order.specs.Order.{isLess}
 use Rattle.query_item.specs.declared.ItemWords.{ItemWords}
 use Rattle.query_item.specs.Items.{itemSize, itemsFrom, holds, queryItem}
 use Rattle.item_check.specs.Checks.{accepted, uprightFault}
+use Rattle.insert_order.specs.Order.{orderItems}
+use Rattle.insert_order.specs.Refusals.{orderVerdict, orderedVerdict}
+use Rattle.insert_order.proofs.Ordered.{Among}
 use Rattle.insert.specs.declared.Inserted.{Inserted}
 use Rattle.insert.specs.declared.Inserted.the-variants.{Count, Refused}
 use Rattle.insert.specs.declared.Fate.the-variants.{Stays}
-use Rattle.insert.specs.Insertion.{orderItems, fateOf, staying, mergedWith, placed, inserted, holdsAny}
-use Rattle.insert.specs.Answers.{insertedOf, laid, orderVerdict, orderedVerdict}
+use Rattle.insert.specs.Insertion.{fateOf, staying, mergedWith, placed, inserted, holdsAny}
+use Rattle.insert.specs.Answers.{insertedOf, laid}
 use Rattle.insert.specs.Passes.{firstChanged}
 use Rattle.insert.proofs.Written.{items-flat}
 use Rattle.insert.proofs.Accepted.{list-inserted}
 use Rattle.insert.proofs.Holding.{holds-inserted}
-use Rattle.insert.proofs.Ordered.{Among, order-inserted}
+use Rattle.insert.proofs.Ordered.{order-inserted}
 
 -- ---- the answer
 

@@ -1,8 +1,6 @@
 pub mod Reading
 pub mod Written
 pub mod Moves
-pub mod Ranked
-pub mod Seen
 pub mod Tails
 pub mod Merged
 pub mod Holding

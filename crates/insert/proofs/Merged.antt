@@ -1,5 +1,5 @@
--- What the fates of items say, and the ranks of what merges: from the smaller start to the larger end. Ranks as in Ranked.antt. Assumes
--- nothing.
+-- What the fates of items say, and the ranks of what merges: from the smaller start to the larger end. Ranks as in the Ranked.antt of
+-- `insert_order`. Assumes nothing.
 use Prim.Native.Nat.{ℕ, _≤_, _<_, min, max}
 use mathlib.Core.Path.{_≡_, refl, sym, ap, _∙_}
 use mathlib.Core.Bool.{Bool, true, false, cond, not, _||_, _&&_}
@@ -16,17 +16,18 @@ use Rattle.key_order.proofs.Line.{size}
 use Rattle.key_order.proofs.Ranks.{rank}
 use Rattle.query_item.specs.declared.KeyAt.{KeyAt}
 use Rattle.query_item.specs.declared.ItemWords.{ItemWords}
-use Rattle.query_item.specs.declared.QueryItem.{QueryItem}
-use Rattle.query_item.specs.declared.QueryItem.the-variants.{Key, Range, RangeInclusive, RangeFull, RangeFrom, RangeTo, RangeToInclusive, RangeAfter, RangeAfterTo, RangeAfterToInclusive}
+use Rattle.query_item.specs.declared.QueryItem.the-variants.{Key, RangeInclusive}
 use Rattle.query_item.specs.declared.RangeSetItem.{RangeSetItem}
 use Rattle.query_item.specs.declared.RangeSetItem.the-variants.{UnboundedStart, UnboundedEnd, Inclusive, ExclusiveStart, ExclusiveEnd}
 use Rattle.query_item.specs.declared.MaybeItem.the-variants.{Item}
 use Rattle.query_item.specs.Items.{bytesOf, same, queryItem}
-use Rattle.query_item.specs.Boundaries.{compareIn, toRangeSet, rangeOf, itemBetween}
+use Rattle.query_item.specs.Boundaries.{compareIn, rangeOf, itemBetween}
+use Rattle.query_item.proofs.Laws.{Starts, Ends, item-sides}
+use Rattle.insert_order.specs.Order.{plain, sameItem, endsBelow}
 use Rattle.insert.specs.declared.Fate.{Fate}
 use Rattle.insert.specs.declared.Fate.the-variants.{Replaced, Stays, Merges}
-use Rattle.insert.specs.Insertion.{plain, sameItem, endsBelow, fateOf, smallerStart, largerEnd, plainItem, merged, mergeBy, mergedWith}
-use Rattle.insert.proofs.Ranked.{rk, lo, hi, rk-says, ends-less, same-bytes}
+use Rattle.insert.specs.Insertion.{fateOf, smallerStart, largerEnd, plainItem, merged, mergeBy, mergedWith}
+use Rattle.insert_order.proofs.Ranked.{rk, lo, hi, rk-says, ends-less, same-bytes}
 
 -- ---- fates
 
@@ -65,33 +66,6 @@ pub fate-is : (pool : List ℕ) (new it : ItemWords) {f : Fate} → fateOf pool 
 fate-is pool new it e = rw e at (fate-says pool new it)
 
 -- ---- the item between two boundaries
-
--- boundaries that a range can start with, and end with
-abbrev pub Starts : RangeSetItem → Type 0
-Starts UnboundedStart = Unit {0}
-Starts UnboundedEnd = ⊥
-Starts (Inclusive k) = Unit {0}
-Starts (ExclusiveStart k) = Unit {0}
-Starts (ExclusiveEnd k) = ⊥
-
-abbrev pub Ends : RangeSetItem → Type 0
-Ends UnboundedStart = ⊥
-Ends UnboundedEnd = Unit {0}
-Ends (Inclusive k) = Unit {0}
-Ends (ExclusiveStart k) = ⊥
-Ends (ExclusiveEnd k) = Unit {0}
-
-pub item-sides : (q : QueryItem) → Starts (toRangeSet q .start) × Ends (toRangeSet q .end)
-item-sides (Key a) = (tt, tt)
-item-sides (Range a b) = (tt, tt)
-item-sides (RangeInclusive a b) = (tt, tt)
-item-sides RangeFull = (tt, tt)
-item-sides (RangeFrom a) = (tt, tt)
-item-sides (RangeTo b) = (tt, tt)
-item-sides (RangeToInclusive b) = (tt, tt)
-item-sides (RangeAfter a) = (tt, tt)
-item-sides (RangeAfterTo a b) = (tt, tt)
-item-sides (RangeAfterToInclusive a b) = (tt, tt)
 
 module _ (n : ℕ) (pool : List ℕ) where
   abbrev R : RangeSetItem → ℕ
@@ -153,8 +127,8 @@ module _ (n : ℕ) (pool : List ℕ) where
     pub merged-spans : (cur it : ItemWords) → Spans (merged pool cur it) (min (S cur) (S it)) (max (E cur) (E it))
     unfolding merged
     merged-spans cur it =
-        let p = item-sides (queryItem cur) in
-        let q = item-sides (queryItem it) in
+        let p = item-sides pool n h (queryItem cur) in
+        let q = item-sides pool n h (queryItem it) in
         let s = smaller-start (rangeOf cur .start) (rangeOf it .start) (p .0) (q .0) in
         let e = larger-end (rangeOf cur .end) (rangeOf it .end) (p .1) (q .1) in
         let r = item-spans cur (smallerStart pool (rangeOf cur .start) (rangeOf it .start)) (largerEnd pool (rangeOf cur .end) (rangeOf it .end)) (s .0) (e .0) in

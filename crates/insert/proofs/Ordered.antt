@@ -1,92 +1,30 @@
 -- The list after insertion is in insertion order. Plain items that stay lie to one side of the new item and of all that merges with it, so
 -- that they lie to that side of the result. Assumes nothing.
-use Prim.Native.Nat.{ℕ, zero, suc, _≤_, _<_}
+use Prim.Native.Nat.{ℕ, _≤_, _<_}
 use mathlib.Core.Path.{_≡_, refl, sym, ap, _∙_}
-use mathlib.Core.Bool.{Bool, true, false, cond, not, _||_, _&&_}
+use mathlib.Core.Bool.{Bool, true, false, cond}
 use mathlib.Core.Logic.{_⊎_, inl, inr, ⊎-elim}
 use mathlib.Core.List.{List, [], _∷_}
 use native.Mathlib.Omega.{arith}
 use native.Mathlib.Nat.{le-refl}
 use lib.Dec.{eqb}
 use borrow.Author.Tests.{ltb-true, ltb-false, le-ltb}
-use Rattle.key_order.specs.declared.Ordering.{Ordering}
-use Rattle.key_order.specs.declared.Ordering.the-variants.{Less, Equal, Greater}
-use Rattle.key_order.specs.Order.{isLess, isAtMost}
-use Rattle.key_order.proofs.Numbers.{Says}
+use Rattle.key_order.specs.Order.{isLess}
 use Rattle.key_order.proofs.Line.{size}
 use Rattle.query_item.specs.declared.ItemWords.{ItemWords}
-use Rattle.query_item.specs.Boundaries.{compareIn, rangeOf}
-use Rattle.item_check.specs.Checks.{answered, refused, Verdict, accepted, andThen, malformed, outside, uprightFault, faultAt, firstBad}
+use Rattle.item_check.specs.Checks.{accepted, uprightFault}
+use Rattle.insert_order.specs.Order.{orderItems, plain, sameItem, endsBelow, clash}
+use Rattle.insert_order.specs.Refusals.{orderVerdict, orderedVerdict}
+use Rattle.insert_order.proofs.Ranked.{lo, hi, itemRank, order-less, rank-above, same-rank, same-item-rank, same-wrapper}
+use Rattle.insert_order.proofs.Seen.{clash-none}
+use Rattle.insert_order.proofs.Ordered.{Among, Ordered, accepted-ordered, ordered-accepted, clash-says, plain-apart}
+use Rattle.insert_order.proofs.Accepted.{accepted-items, accepted-order, items-upright, upright-ranks}
 use Rattle.insert.specs.declared.Fate.{Fate}
 use Rattle.insert.specs.declared.Fate.the-variants.{Replaced, Stays, Merges}
-use Rattle.insert.specs.Insertion.{orderItems, plain, sameItem, endsBelow, clash, clashes, fateOf, keepBy, staying, merged, mergeBy, mergedWith, placed, inserted}
-use Rattle.insert.specs.Answers.{firstClash, orderVerdict, orderedVerdict}
-use Rattle.insert.proofs.Ranked.{lo, hi, itemRank, rk-says, order-less, ends-less, rank-above, same-rank, same-item-rank, same-wrapper}
+use Rattle.insert.specs.Insertion.{fateOf, keepBy, staying, merged, mergeBy, mergedWith, placed, inserted}
 use Rattle.insert.proofs.Merged.{fate-is, merged-spans, meets-ranks, ends-ranks, merged-wider, merged-plain}
-use Rattle.insert.proofs.Seen.{or-false, clash-none}
-
--- ---- lists in order, by their pairs
-
-abbrev pub Among : ItemWords → List ItemWords → Type 0
-Among x [] = ⊥
-Among x (y ∷ ys) = (x ≡ y) ⊎ Among x ys
 
 module _ (pool : List ℕ) where
-  -- no item clashes with a later one
-  abbrev pub Ordered : List ItemWords → Type 0
-  Ordered [] = Unit {0}
-  Ordered (x ∷ xs) = ((y : ItemWords) → Among y xs → clash pool x y ≡ false) × Ordered xs
-
-  clashes-none : (es : List ItemWords) (it : ItemWords) → clashes pool es it ≡ false → (e : ItemWords) → Among e es → clash pool e it ≡ false
-  unfolding clashes
-  clashes-none [] it h e m = absurd m
-  clashes-none (d ∷ ds) it h e m = go (clash pool d it) refl h (λ q n. clashes-none ds it q e n) m
-    where
-      go : (t : Bool) → clash pool d it ≡ t → t || clashes pool ds it ≡ false → (clashes pool ds it ≡ false → Among e ds → clash pool e it ≡ false)
-          → (e ≡ d) ⊎ Among e ds → clash pool e it ≡ false
-      go true p q r n = absurd (let z : _≡_ {A = ℕ} 0 1 = cc in omega arith)
-      go false p q r (inl s) = rw s p
-      go false p q r (inr n) = r q n
-
-  clashes-no : (es : List ItemWords) (it : ItemWords) → ((e : ItemWords) → Among e es → clash pool e it ≡ false) → clashes pool es it ≡ false
-  unfolding clashes
-  clashes-no [] it h = refl
-  clashes-no (d ∷ ds) it h = rw (h d (inl refl), clashes-no ds it (λ e m. h e (inr m)))
-
-  -- what the verdict says of some earlier items and a list
-  abbrev Follows : List ItemWords → List ItemWords → Type 0
-  Follows es its = ((e it : ItemWords) → Among e es → Among it its → clash pool e it ≡ false) × Ordered its
-
-  accepted-ordered : (i : ℕ) (es its : List ItemWords) → firstClash pool i es its ≡ accepted → Follows es its
-  unfolding firstClash
-  accepted-ordered i es [] h = (λ e it m n. absurd n, tt)
-  accepted-ordered i es (x ∷ xs) h = go (clashes pool es x) refl h (accepted-ordered (suc i) (x ∷ es) xs)
-    where
-      go : (t : Bool) → clashes pool es x ≡ t → cond t (refused 4 0 i) (firstClash pool (suc i) (x ∷ es) xs) ≡ accepted
-          → (firstClash pool (suc i) (x ∷ es) xs ≡ accepted → Follows (x ∷ es) xs) → Follows es (x ∷ xs)
-      go true p q r = absurd (let z : _≡_ {A = ℕ} 0 1 = cc in omega arith)
-      go false p q r =
-          let f = r q in (
-            λ e it m n. later e it m n f,
-            (λ y n. f .0 x y (inl refl) n, f .1),
-          )
-        where
-          later : (e it : ItemWords) → Among e es → (it ≡ x) ⊎ Among it xs → Follows (x ∷ es) xs → clash pool e it ≡ false
-          later e it m (inl s) f = rw s (clashes-none es x p e m)
-          later e it m (inr n) f = f .0 e it (inr m) n
-
-  ordered-accepted : (i : ℕ) (es its : List ItemWords) → Follows es its → firstClash pool i es its ≡ accepted
-  unfolding firstClash
-  ordered-accepted i es [] f = refl
-  ordered-accepted i es (x ∷ xs) f =
-      rw (clashes-no es x (λ e m. f .0 e x m (inl refl))) (ordered-accepted (suc i) (x ∷ es) xs (λ e it m n. go e it m n, f .1 .1))
-    where
-      go : (e it : ItemWords) → (e ≡ x) ⊎ Among e es → Among it xs → clash pool e it ≡ false
-      go e it (inl s) n = rw s (f .1 .0 it n)
-      go e it (inr m) n = f .0 e it m (inr n)
-
-  -- ---- ranks of a list in order
-
   abbrev K : ItemWords → ℕ
   K it = itemRank (size pool) pool it
 
@@ -98,33 +36,6 @@ module _ (pool : List ℕ) where
 
   fits : size pool ≤ size pool
   fits = le-refl (size pool)
-
-  -- what an item and a later one that it does not clash with have
-  clash-says : (x y : ItemWords) → clash pool x y ≡ false → (K x ≤ K y) × (plain x ≡ true → plain y ≡ true → E x < S y)
-  clash-says x y e =
-      let p = or-false (isLess (orderItems pool y x)) (plain x && plain y && not (endsBelow pool x y)) (sameItem pool x y) e in (
-        ltb-false (K y) (K x) (sym (order-less (size pool) pool fits y x) ∙ p .0),
-        λ s t. ltb-true (E x) (S y) (sym (ends-less (size pool) pool fits x y) ∙ go (plain x) (plain y) (endsBelow pool x y) s t (p .1)),
-      )
-    where
-      go : (a b c : Bool) → a ≡ true → b ≡ true → a && b && not c ≡ false → c ≡ true
-      go true true true p q r = refl
-      go true true false p q r = absurd (let z : _≡_ {A = ℕ} 0 1 = cc in omega arith)
-      go true false c p q r = absurd (let z : _≡_ {A = ℕ} 0 1 = cc in omega arith)
-      go false b c p q r = absurd (let z : _≡_ {A = ℕ} 0 1 = cc in omega arith)
-
-  -- two plain items of a list in order are one, or lie apart
-  plain-apart : (its : List ItemWords) → Ordered its → (x p : ItemWords) → Among x its → Among p its → plain x ≡ true → plain p ≡ true
-      → (x ≡ p) ⊎ ((E x < S p) ⊎ (E p < S x))
-  plain-apart [] o x p m n s t = absurd m
-  plain-apart (y ∷ ys) o x p m n s t = go m n (λ m′ n′. plain-apart ys (o .1) x p m′ n′ s t)
-    where
-      go : (x ≡ y) ⊎ Among x ys → (p ≡ y) ⊎ Among p ys → (Among x ys → Among p ys → (x ≡ p) ⊎ ((E x < S p) ⊎ (E p < S x)))
-          → (x ≡ p) ⊎ ((E x < S p) ⊎ (E p < S x))
-      go (inl a) (inl b) r = inl (a ∙ sym b)
-      go (inl a) (inr b) r = inr (inl (clash-says x p (rw a (o .0 p b)) .1 s t))
-      go (inr a) (inl b) r = inr (inr (clash-says p x (rw b (o .0 x a)) .1 t s))
-      go (inr a) (inr b) r = r a b
 
   -- ---- what stays, and what is in the list then
 
@@ -152,12 +63,12 @@ module _ (pool : List ℕ) where
         go Stays e (inr n) r = let s = r n in (inr (s .0), s .1)
         go Merges e n r = let s = r n in (inr (s .0), s .1)
 
-    staying-ordered : (its : List ItemWords) → Ordered its → Ordered (staying pool new its)
+    staying-ordered : (its : List ItemWords) → Ordered pool its → Ordered pool (staying pool new its)
     unfolding staying
     staying-ordered [] o = tt
     staying-ordered (y ∷ ys) o = go (fateOf pool new y) (staying-ordered ys (o .1))
       where
-        go : (f : Fate) → Ordered (staying pool new ys) → Ordered (keepBy f y (staying pool new ys))
+        go : (f : Fate) → Ordered pool (staying pool new ys) → Ordered pool (keepBy f y (staying pool new ys))
         go Replaced r = r
         go Stays r = (λ x m. o .0 x (among-staying ys x m .0), r)
         go Merges r = r
@@ -197,7 +108,7 @@ module _ (pool : List ℕ) where
         go Stays e r = r
         go Merges e r = let m = fate-is pool new it e in absurd (let z : _≡_ {A = ℕ} 0 1 = cc (m .new-plain) in omega arith)
 
-    module _ (its : List ItemWords) (o : Ordered its) (up : (x : ItemWords) → Among x its → S x ≤ E x) (up-new : S new ≤ E new) where
+    module _ (its : List ItemWords) (o : Ordered pool its) (up : (x : ItemWords) → Among x its → S x ≤ E x) (up-new : S new ≤ E new) where
       abbrev M : ItemWords
       M = mergedWith pool new new its
 
@@ -217,7 +128,7 @@ module _ (pool : List ℕ) where
           left : E x < S new → (p : ItemWords) → Among p its → fateOf pool new p ≡ Merges → E x < S p
           left l p n f =
               let y = meets p f in
-              pick (plain-apart its o x p m n t (y .0)) (y .2)
+              pick (plain-apart pool its o x p m n t (y .0)) (y .2)
             where
               pick : (x ≡ p) ⊎ ((E x < S p) ⊎ (E p < S x)) → S new ≤ E p → E x < S p
               pick (inl q) h = absurd (one p f q)
@@ -227,7 +138,7 @@ module _ (pool : List ℕ) where
           right : E new < S x → (p : ItemWords) → Among p its → fateOf pool new p ≡ Merges → E p < S x
           right l p n f =
               let y = meets p f in
-              pick (plain-apart its o x p m n t (y .0)) (y .1)
+              pick (plain-apart pool its o x p m n t (y .0)) (y .1)
             where
               pick : (x ≡ p) ⊎ ((E x < S p) ⊎ (E p < S x)) → S p ≤ E new → E p < S x
               pick (inl q) h = absurd (one p f q)
@@ -296,7 +207,7 @@ module _ (pool : List ℕ) where
 
       -- ---- the result in its place
 
-      placed-ordered : (xs : List ItemWords) → Ordered xs → ((x : ItemWords) → Among x xs → Among x its × (fateOf pool new x ≡ Stays)) → Ordered (placed pool M xs)
+      placed-ordered : (xs : List ItemWords) → Ordered pool xs → ((x : ItemWords) → Among x xs → Among x its × (fateOf pool new x ≡ Stays)) → Ordered pool (placed pool M xs)
       unfolding placed
       placed-ordered [] q f = (λ y m. absurd m, tt)
       placed-ordered (x ∷ xs) q f = go (isLess (orderItems pool x M)) refl (placed-ordered xs (q .1) (λ y m. f y (inr m)))
@@ -304,7 +215,7 @@ module _ (pool : List ℕ) where
           here : Among x its × (fateOf pool new x ≡ Stays)
           here = f x (inl refl)
 
-          go : (t : Bool) → isLess (orderItems pool x M) ≡ t → Ordered (placed pool M xs) → Ordered (cond t (x ∷ placed pool M xs) (M ∷ x ∷ xs))
+          go : (t : Bool) → isLess (orderItems pool x M) ≡ t → Ordered pool (placed pool M xs) → Ordered pool (cond t (x ∷ placed pool M xs) (M ∷ x ∷ xs))
           go true e r = (λ y m. later y (among-placed M xs y m), r)
             where
               later : (y : ItemWords) → (y ≡ M) ⊎ Among y xs → clash pool x y ≡ false
@@ -316,43 +227,18 @@ module _ (pool : List ℕ) where
               later y (inl p) = rw p (above x (here .0) (here .1) e)
               later y (inr m) =
                   let s = f y (inr m) in
-                  let up-from = clash-says x y (q .0 y m) .0 in
+                  let up-from = clash-says pool x y (q .0 y m) .0 in
                   let k = ltb-false (K x) (K M) (sym (order-less (size pool) pool fits x M) ∙ e) in
                   above y (s .0) (s .1) (order-less (size pool) pool fits y M ∙ le-ltb (K y) (K M) (omega arith))
 
-      inserted-ordered : Ordered (inserted pool new its)
+      inserted-ordered : Ordered pool (inserted pool new its)
       unfolding inserted
       inserted-ordered = placed-ordered (staying pool new its) (staying-ordered its o) (λ x m. among-staying its x m)
 
-  -- ---- accepted items are upright
-
-  pub upright-ranks : (it : ItemWords) → uprightFault pool it ≡ 0 → S it ≤ E it
-  upright-ranks it e = go (malformed it) (outside pool it) (compareIn pool (rangeOf it .start) (rangeOf it .end)) (rk-says (size pool) pool fits (rangeOf it .start) (rangeOf it .end)) e
-    where
-      go : (a b : Bool) (o : Ordering) → Says o (S it) (E it) → _≡_ {A = ℕ} (cond a 1 (cond b 2 (cond (isAtMost o) 0 3))) 0 → S it ≤ E it
-      go true b o s f = absurd (omega arith)
-      go false true o s f = absurd (omega arith)
-      go false false Less s f = omega arith
-      go false false Equal s f = omega arith
-      go false false Greater s f = absurd (omega arith)
-
-  items-upright : (i : ℕ) (its : List ItemWords) → firstBad pool 0 i its ≡ accepted → (x : ItemWords) → Among x its → S x ≤ E x
-  unfolding firstBad
-  items-upright i [] e x m = absurd m
-  items-upright i (it ∷ its) e x m = go (uprightFault pool it) refl e m (λ q n. items-upright (suc i) its q x n)
-    where
-      go : (f : ℕ) → uprightFault pool it ≡ f → andThen (faultAt f 0 i) (firstBad pool 0 (suc i) its) ≡ accepted → (x ≡ it) ⊎ Among x its
-          → (firstBad pool 0 (suc i) its ≡ accepted → Among x its → S x ≤ E x) → S x ≤ E x
-      go zero p q (inl s) r = rw s (upright-ranks it p)
-      go zero p q (inr n) r = r q n
-      go (suc f) p q n r = absurd (let z : _≡_ {A = ℕ} 0 1 = cc in omega arith)
-
   pub order-inserted : (new : ItemWords) (its : List ItemWords) → orderedVerdict pool its ≡ accepted → uprightFault pool new ≡ 0
       → orderVerdict pool (inserted pool new its) ≡ accepted
-  order-inserted new its e f = go (firstBad pool 0 0 its) refl e
-    where
-      go : (v : Verdict) → firstBad pool 0 0 its ≡ v → andThen v (orderVerdict pool its) ≡ accepted → orderVerdict pool (inserted pool new its) ≡ accepted
-      go (answered tt) p q =
-          ordered-accepted 0 [] (inserted pool new its)
-          (λ a b m n. absurd m, inserted-ordered new its (accepted-ordered 0 [] its q .1) (items-upright 0 its p) (upright-ranks new f))
-      go (refused a b c) p q = absurd (let z : _≡_ {A = ℕ} 0 1 = cc in omega arith)
+  order-inserted new its e f =
+      ordered-accepted pool 0 [] (inserted pool new its) (
+        λ a b m n. absurd m,
+        inserted-ordered new its (accepted-ordered pool 0 [] its (accepted-order pool its e) .1) (items-upright pool 0 its (accepted-items pool its e)) (upright-ranks pool new f),
+      )

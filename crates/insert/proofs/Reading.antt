@@ -1,8 +1,8 @@
 -- How the passes that read go over a list, a turn at a time: what is left of it at an index. Each law takes what the turn's calls gave.
 -- Assumes nothing.
-use Prim.Native.Nat.{ℕ, zero, suc, _+_, _-_, _≤_, _<_}
-use mathlib.Core.Path.{_≡_, refl}
-use mathlib.Core.Bool.{Bool, true, false, not, _&&_}
+use Prim.Native.Nat.{ℕ, suc, _+_, _-_, _≤_, _<_}
+use mathlib.Core.Path.{_≡_}
+use mathlib.Core.Bool.{Bool, true, false}
 use mathlib.Core.List.{List}
 use native.Mathlib.Omega.{arith}
 use lib.ListN.{length}
@@ -11,8 +11,8 @@ use Rattle.query_item.specs.Items.{itemAt, itemsFrom}
 use Rattle.item_check.proofs.Scans.{items-end, items-more}
 use Rattle.insert.specs.declared.Fate.{Fate}
 use Rattle.insert.specs.declared.Fate.the-variants.{Replaced, Stays, Merges}
-use Rattle.insert.specs.Insertion.{orderItems, plain, sameItem, endsBelow, fateOf, keepBy, staying, mergeBy, mergedWith}
-use Rattle.insert.specs.Passes.{lastOrder, meetsPlain, repeats, isStaying, oneIf, keepsPlace, firstChanged}
+use Rattle.insert.specs.Insertion.{fateOf, keepBy, staying, mergeBy, mergedWith}
+use Rattle.insert.specs.Passes.{isStaying, oneIf, keepsPlace, firstChanged}
 
 module _ (pool ws : List ℕ) (i count : ℕ) where
   abbrev left : ℕ → List ItemWords
@@ -62,34 +62,6 @@ module _ (pool ws : List ℕ) (i count : ℕ) where
   unfolding firstChanged
   first-end new result h = rw (items-end ws i count h)
 
-  -- ---- an item that is repeated
-
-  pub repeats-here : (it : ItemWords) {old : ItemWords} → i < count → old ≡ itemAt ws i → sameItem pool old it ≡ true → repeats pool (left i) it ≡ true
-  unfolding repeats
-  repeats-here it h p q = rw (items-more ws i count h, ← p, q)
-
-  pub repeats-next : (it : ItemWords) {old : ItemWords} → i < count → old ≡ itemAt ws i → sameItem pool old it ≡ false
-      → repeats pool (left i) it ≡ repeats pool (left (i + 1)) it
-  unfolding repeats
-  repeats-next it h p q = rw (items-more ws i count h, ← p, q)
-
-  pub repeats-end : (it : ItemWords) → count ≤ i → repeats pool (left i) it ≡ false
-  unfolding repeats
-  repeats-end it h = rw (items-end ws i count h)
-
 pub one-at-most : (t : Bool) {n : ℕ} → n ≡ oneIf t → n ≤ 1
 one-at-most true e = omega arith
 one-at-most false e = omega arith
-
--- ---- the item before an index
-
-module _ (pool ws : List ℕ) where
-  pub last-before : (i : ℕ) (it : ItemWords) → (i ≡ 0 → ⊥) → lastOrder pool ws i it ≡ orderItems pool (itemAt ws (i - 1)) it
-  unfolding lastOrder
-  last-before zero it h = absurd (h refl)
-  last-before (suc i) it h = let e : suc i - 1 ≡ i = omega arith in rw e
-
-  pub meets-before : (p : ℕ) (it : ItemWords) → (p ≡ 0 → ⊥) → meetsPlain pool ws p it ≡ plain it && not (endsBelow pool (itemAt ws (p - 1)) it)
-  unfolding meetsPlain
-  meets-before zero it h = absurd (h refl)
-  meets-before (suc p) it h = let e : suc p - 1 ≡ p = omega arith in rw e

@@ -1,5 +1,5 @@
--- The list after insertion by its tail: what stands before the first change stays, and the tail that is lent on comes back rewritten. And
--- what the accepted checks give. Assumes nothing.
+-- The list after insertion by its tail: what stands before the first change stays, and the tail that is lent on comes back rewritten. Assumes
+-- nothing.
 use Prim.Native.Nat.{ℕ, zero, suc, _+_, _-_, _*_, _/_, _≤_, max}
 use mathlib.Core.Path.{_≡_, refl, sym, ap, _∙_}
 use mathlib.Core.Bool.{Bool, true, false, cond, _||_, _&&_}
@@ -13,11 +13,11 @@ use borrow.Author.Tests.{ltb-false}
 use Rattle.key_order.specs.Order.{isLess}
 use Rattle.query_item.specs.declared.ItemWords.{ItemWords}
 use Rattle.query_item.specs.Items.{itemSize, itemAt, itemsFrom}
-use Rattle.item_check.specs.Checks.{answered, refused, Verdict, accepted, andThen, mostItems, poolVerdict, faultAt, uprightFault}
+use Rattle.insert_order.specs.Order.{orderItems}
 use Rattle.insert.specs.declared.Fate.{Fate}
 use Rattle.insert.specs.declared.Fate.the-variants.{Replaced, Stays, Merges}
-use Rattle.insert.specs.Insertion.{orderItems, fateOf, keepBy, staying, mergedWith, placed, inserted}
-use Rattle.insert.specs.Answers.{bufferVerdict, orderedVerdict, inputVerdict, flatAll, laid}
+use Rattle.insert.specs.Insertion.{fateOf, keepBy, staying, mergedWith, placed, inserted}
+use Rattle.insert.specs.Answers.{flatAll, laid}
 use Rattle.insert.specs.Passes.{isStaying, keepsPlace, firstChanged}
 use Rattle.insert.proofs.Written.{items-drop, flat-append, flat-front, length-items}
 
@@ -170,17 +170,3 @@ room-is m k n e = go (ltb m n) (ltb k n) refl e
     go : (t u : Bool) → ltb m n ≡ t → t || u ≡ false → n ≤ m
     go true u p q = absurd (let z : _≡_ {A = ℕ} 0 1 = cc in omega arith)
     go false u p q = ltb-false m n p
-
--- ---- an accepted list is within its buffer
-
-pub input-count : (pool ws : List ℕ) (count : ℕ) (new : ItemWords) → inputVerdict pool ws count new ≡ accepted → count ≤ length ws / itemSize
-input-count pool ws count new e = go (poolVerdict pool) e
-  where
-    buffer : (t u : Bool) → ltb (length ws / itemSize) count ≡ t → (rest : Verdict) → andThen (cond (t || u) (refused 1 0 0) accepted) rest ≡ accepted → count ≤ length ws / itemSize
-    buffer true u p rest f = absurd (let z : _≡_ {A = ℕ} 0 1 = cc in omega arith)
-    buffer false u p rest f = ltb-false (length ws / itemSize) count p
-
-    go : (v : Verdict) → andThen v (andThen (bufferVerdict ws count) (andThen (orderedVerdict pool (itemsFrom ws 0 count)) (faultAt (uprightFault pool new) 1 0))) ≡ accepted
-        → count ≤ length ws / itemSize
-    go (answered u) f = buffer (ltb (length ws / itemSize) count) (ltb mostItems count) refl _ f
-    go (refused n s i) f = absurd (let z : _≡_ {A = ℕ} 0 1 = cc in omega arith)

@@ -1,12 +1,13 @@
--- What `insert_item` answers and writes: the refusals in their order, the room, the words. Definitions only. Assumes nothing.
-use Prim.Native.Nat.{ℕ, suc, _-_, _*_, _/_, max}
+-- What `insert_item` answers and writes: the checks, the room, the words. Definitions only. Assumes nothing.
+use Prim.Native.Nat.{ℕ, _-_, _*_, _/_, max}
 use mathlib.Core.List.{List, [], _∷_, _++_}
 use mathlib.Core.Bool.{cond, _||_}
 use lib.ListN.{length, drop, replicate}
 use lib.Dec.{ltb}
 use Rattle.query_item.specs.declared.ItemWords.{ItemWords}
 use Rattle.query_item.specs.Items.{itemSize, itemsFrom, flat}
-use Rattle.item_check.specs.Checks.{Answer, answered, refused, Verdict, accepted, andThen, refusedAs, mostItems, poolVerdict, firstBad, faultAt, uprightFault}
+use Rattle.item_check.specs.Checks.{Answer, answered, refused, andThen, refusedAs, mostItems}
+use Rattle.insert_order.specs.Refusals.{inputVerdict}
 use Rattle.insert.specs.declared.Inserted.{Inserted}
 use Rattle.insert.specs.declared.Inserted.the-variants as inserted
 use Rattle.insert.specs.Insertion as insertion
@@ -16,30 +17,7 @@ abbrev pub insertedOf : Inserted → Answer ℕ
 insertedOf (inserted.Count n) = answered n
 insertedOf (inserted.Refused r) = refusedAs r
 
--- ---- refusals
-
--- 01 no. 1, reading A10: the old count beyond its buffer, or over 2,048; reading A3: spare words are never refused
-abbrev pub bufferVerdict : List ℕ → ℕ → Verdict
-bufferVerdict ws count = cond (ltb (length ws / itemSize) count || ltb mostItems count) (refused 1 0 0) accepted
-
--- 01 no. 4: the first index that breaks a rule, alone or with an earlier one
-unfoldable pub firstClash : List ℕ → ℕ → List ItemWords → List ItemWords → Verdict
-firstClash pool i earlier [] = accepted
-firstClash pool i earlier (it ∷ its) = cond (insertion.clashes pool earlier it) (refused 4 0 i) (firstClash pool (suc i) (it ∷ earlier) its)
-
-abbrev pub orderVerdict : List ℕ → List ItemWords → Verdict
-orderVerdict pool its = firstClash pool 0 [] its
-
--- 01 Order: the pool, the list's shape, its items one by one, 4, then the new item, which is side 1 and index 0
-
-abbrev pub orderedVerdict : List ℕ → List ItemWords → Verdict
-orderedVerdict pool its = andThen (firstBad pool 0 0 its) (orderVerdict pool its)
-
-abbrev pub inputVerdict : List ℕ → List ℕ → ℕ → ItemWords → Verdict
-inputVerdict pool ws count new =
-    andThen (poolVerdict pool)
-    (andThen (bufferVerdict ws count)
-    (andThen (orderedVerdict pool (itemsFrom ws 0 count)) (faultAt (uprightFault pool new) 1 0)))
+-- ---- the room
 
 -- 01 m5: 6 exactly if the final count exceeds the buffer or 2,048
 abbrev pub roomAnswer : List ℕ → ℕ → Answer ℕ

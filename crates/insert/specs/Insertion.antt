@@ -1,55 +1,19 @@
--- Insertion into a list of items: the order of the list, what becomes of each of its items, what merges, and where the result goes.
--- Definitions only. Assumes nothing.
+-- Insertion into a list of items: what becomes of each of its items, what merges, and where the result goes. Definitions only. Assumes
+-- nothing.
 use Prim.Native.Nat.{ℕ}
 use mathlib.Core.List.{List, [], _∷_}
 use mathlib.Core.Bool.{Bool, false, cond, not, _||_, _&&_}
-use lib.Dec.{eqb}
-use Rattle.key_order.specs.declared.Ordering.{Ordering}
-use Rattle.key_order.specs.Order.{thenBy, smaller, isLess}
+use Rattle.key_order.specs.Order.{smaller, isLess}
 use Rattle.query_item.specs.declared.ItemWords.{ItemWords}
 use Rattle.query_item.specs.declared.RangeSetItem.{RangeSetItem}
 use Rattle.query_item.specs.declared.RangeSet.{RangeSet}
 use Rattle.query_item.specs.declared.MaybeItem.{MaybeItem}
 use Rattle.query_item.specs.declared.MaybeItem.the-variants.{NoItem, Item}
-use Rattle.query_item.specs.Items.{bytesOf, same, wordsOf, queryItem, holds}
+use Rattle.query_item.specs.Items.{wordsOf, queryItem, holds}
 use Rattle.query_item.specs.Boundaries.{compareIn, fromTo, rangeOf, toQueryItem}
+use Rattle.insert_order.specs.Order.{orderItems, plain, sameItem, endsBelow}
 use Rattle.insert.specs.declared.Fate.{Fate}
 use Rattle.insert.specs.declared.Fate.the-variants.{Replaced, Stays, Merges}
-
--- ---- the order of a list
-
--- 01 m5: items are ordered by start, then end
-unfoldable pub orderItems : List ℕ → ItemWords → ItemWords → Ordering
-orderItems pool x y = thenBy (compareIn pool (rangeOf x .start) (rangeOf y .start)) (compareIn pool (rangeOf x .end) (rangeOf y .end))
-
--- 01 Wrapper: 0 plain
-abbrev pub plain : ItemWords → Bool
-plain it = eqb (it .wrapper) 0
-
--- 01 m5: equal in code, wrapper and key bytes
-unfoldable pub sameItem : List ℕ → ItemWords → ItemWords → Bool
-sameItem pool x y =
-    eqb (x .code) (y .code)
-    && eqb (x .wrapper) (y .wrapper)
-    && same (bytesOf pool (x .start)) (bytesOf pool (y .start))
-    && same (bytesOf pool (x .end)) (bytesOf pool (y .end))
-
--- one item ends below the start of another
-unfoldable pub endsBelow : List ℕ → ItemWords → ItemWords → Bool
-endsBelow pool x y = isLess (compareIn pool (rangeOf x .end) (rangeOf y .start))
-
--- 01 m5, reading A6: an item breaks the order with an earlier one that it sorts below, with an earlier plain one that does not end below
--- its start where it is plain too, and with an earlier one that is equal
-abbrev pub clash : List ℕ → ItemWords → ItemWords → Bool
-clash pool earlier it =
-    isLess (orderItems pool it earlier)
-    || (plain earlier && plain it && not (endsBelow pool earlier it))
-    || sameItem pool earlier it
-
--- with any of the earlier ones
-unfoldable pub clashes : List ℕ → List ItemWords → ItemWords → Bool
-clashes pool [] it = false
-clashes pool (e ∷ es) it = clash pool e it || clashes pool es it
 
 -- ---- what becomes of the list's items
 

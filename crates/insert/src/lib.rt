@@ -1,6 +1,7 @@
-// Module 5 of document 01: insertion of an item into a list of items that stands in a lent buffer.
-// Definitions: specs/Insertion.antt (one function on lists of items), specs/Answers.antt (refusals, the room, the words at exit).
-// specs/Passes.antt has what the passes go by. Laws: proofs/Laws.antt.
+// Module 5 of document 01: insertion of an item into a list of items that stands in a lent buffer. `insert_order` has the order of a list
+// and the checks before the room.
+// Definitions: specs/Insertion.antt (one function on lists of items), specs/Answers.antt (the room, the words at exit). specs/Passes.antt
+// has what the passes go by. Laws: proofs/Laws.antt.
 //
 // The passes are linear: the list is checked, then what merges is found, then the tail from the first changed item on is rewritten, each item
 // written once.
@@ -10,9 +11,9 @@ ghost use lib.ListN.{length};
 ghost use Rattle.query_item.specs.Items.{itemSize};
 ghost use Rattle.insert.specs.Answers.{insertedOf, insertAnswer, insertWords, checkedAnswer, checkedWords};
 use crate::merge::find_merged;
-use crate::order::check_input;
 use crate::tail::first_changed;
 use crate::tail::rewrite;
+use insert_order::check_input;
 use item_check::Checked;
 use item_check::MOST_ITEMS;
 use item_check::Refusal;
@@ -20,7 +21,6 @@ use query_item::ItemWords;
 use query_item::item::ITEM_SIZE;
 
 mod merge;
-mod order;
 mod tail;
 
 // What `insert_item` answers: the new count, or a refusal.

@@ -1,15 +1,17 @@
 // What becomes of the list's items, and what the new item comes to.
 ghost use mathlib.Core.Path.{_≡_};
+ghost use mathlib.Core.Bool.{_&&_};
 ghost use lib.ListN.{length};
 ghost use Rattle.query_item.specs.Items.{itemsFrom};
-ghost use Rattle.insert.specs.Insertion.{fateOf, staying, smallerStart, largerEnd, hull, plainItem, merged, mergeBy, mergedWith};
+ghost use Rattle.insert_order.specs.Order.{plain};
+ghost use Rattle.insert.specs.Insertion.{disjoint, fateOf, staying, smallerStart, largerEnd, hull, plainItem, merged, mergeBy, mergedWith};
 ghost use Rattle.insert.specs.Passes.{isStaying, oneIf};
 use crate::Fate;
 use crate::Found;
-use crate::order::ends_below;
-use crate::order::is_plain;
-use crate::order::is_same;
-use crate::order::range_of;
+use insert_order::ends_below;
+use insert_order::is_plain;
+use insert_order::is_same;
+use insert_order::range_of;
 use key_order::Ordering;
 use query_item::ItemWords;
 use query_item::MaybeItem;
@@ -43,13 +45,26 @@ pub(crate) fn fate_of(pool: &[u8], item: ItemWords, old: ItemWords) -> Fate
     if is_same(pool, item, old) {
         return Fate::Replaced;
     }
-    if !(is_plain(item) & is_plain(old)) {
+    if !are_plain(item, old) {
         return Fate::Stays;
     }
-    if ends_below(pool, item, old) | ends_below(pool, old, item) {
+    if is_disjoint(pool, item, old) {
         return Fate::Stays;
     }
     Fate::Merges
+}
+
+fn are_plain(x: ItemWords, y: ItemWords) -> bool
+    ensures { λ r. ⌜ r ≡ plain x && plain y ⌝ }
+{
+    is_plain(x) & is_plain(y)
+}
+
+// Whether one of two items ends below the start of the other.
+fn is_disjoint(pool: &[u8], x: ItemWords, y: ItemWords) -> bool
+    ensures { λ r. ⌜ r ≡ disjoint (now (pool .entry)) x y ⌝ }
+{
+    ends_below(pool, x, y) | ends_below(pool, y, x)
 }
 
 pub(crate) fn is_staying(fate: Fate) -> bool

@@ -8,7 +8,7 @@ ghost use Rattle.insert.specs.Answers.{laid};
 ghost use Rattle.insert.specs.Passes.{keepsPlace, firstChanged, pick, goesFirst, zeroItem, Moved, cleared};
 use crate::merge::fate_of;
 use crate::merge::is_staying;
-use crate::order::order_items;
+use insert_order::order_items;
 use query_item::ItemWords;
 use query_item::KeyAt;
 use query_item::boundary::is_less;

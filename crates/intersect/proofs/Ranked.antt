@@ -1,26 +1,19 @@
--- Ranges of a pool by their ranks: what two share, a cut and its parts, as the one-pass sweeps ask for them; and accepted lists ascend.
+-- The pair in ranks: what two ranges share and what is left over of each, case by case; and a left leftover with one comparison less.
 -- Assumes nothing.
 use Prim.Native.Nat.{ℕ, _+_, _≤_, _<_}
-use mathlib.Core.Path.{_≡_, refl, sym, _∙_}
+use mathlib.Core.Path.{_≡_, refl, sym, ap, _∙_}
 use mathlib.Core.Bool.{Bool, true, false, cond}
-use mathlib.Core.List.{List, [], _∷_, append-nil, map}
-use native.Mathlib.Decide.{decLt}
+use mathlib.Core.List.{List, [], _∷_}
 use native.Mathlib.Omega.{arith}
-use borrow.Author.Tests.{leb-true, leb-false, ltb-true, lt-ltb, le-ltb}
-use Rattle.key_order.specs.Order.{isLess, isAtMost}
+use native.Mathlib.Nat.{le-refl}
+use borrow.Author.Tests.{leb-true, ltb-true, lt-ltb, le-ltb}
+use Rattle.key_order.specs.Order.{isLess}
 use Rattle.key_order.proofs.Line.{size}
-use Rattle.query_item.specs.declared.ItemWords.{ItemWords}
 use Rattle.query_item.specs.declared.RangeSetItem.{RangeSetItem}
 use Rattle.query_item.specs.declared.RangeSet.{RangeSet}
-use Rattle.query_item.specs.Items.{queryItem}
-use Rattle.query_item.specs.Boundaries.{compareIn, invertOf, fromTo, rangeOf, upright}
-use Rattle.query_item.proofs.Laws.{Starts, Ends, rankIn, less-rank, at-most-rank, Whole, upright-whole, invert-start, invert-end, rank-top}
-use Rattle.item_check.specs.Checks.{malformed, outside, uprightFault}
-use Rattle.item_check.proofs.Laws.{AllSound, Following, InOrder}
-use Rattle.intervals.proofs.Laws.{AboveOf, BelowOf, Spanned, Meeting, Cutting}
-use Rattle.intersect.specs.Pair.{before, overlap, meetSets, leftOver, rightOver}
-use Rattle.intersect.specs.Lists.{cutSets}
-use Rattle.intersect.specs.Sweep.{rightSet}
+use Rattle.query_item.specs.Boundaries.{compareIn, invertOf, fromTo, upright}
+use Rattle.query_item.proofs.Laws.{Starts, Ends, rankIn, less-rank, at-most-rank, Whole}
+use Rattle.intersect.specs.Pair.{before, overlap, meetSets, leftPart, leftOver, rightOver}
 
 none-either : (t : Bool) → _≡_ {A = List RangeSet} (cond t [] []) []
 none-either true = refl
@@ -40,10 +33,6 @@ module _ (pool : List ℕ) (n : ℕ) (fits : size pool ≤ n) where
   abbrev pub high : RangeSet → ℕ
   high a = rk (a .end) + 1
 
-  -- a does not end after b
-  abbrev pub endsFirst : RangeSet → RangeSet → Bool
-  endsFirst a b = isAtMost (compareIn pool (a .end) (b .end))
-
   -- ---- tests by rank
 
   pub less-yes : (x y : RangeSetItem) → rk x < rk y → isLess (compareIn pool x y) ≡ true
@@ -55,13 +44,6 @@ module _ (pool : List ℕ) (n : ℕ) (fits : size pool ≤ n) where
   pub whole-of : (s e : RangeSetItem) → Starts s → Ends e → rk s ≤ rk e → Good (fromTo s e)
   whole-of s e h k l = record { starts = h; ends = k; straight = l }
 
-  spanned : Spanned endsFirst Good low high
-  spanned = record {
-    proper = λ a g. omega (arith, g .straight);
-    sooner = λ a b g k e. omega (arith, leb-true (rk (a .end)) (rk (b .end)) (sym (at-most-rank pool n fits (a .end) (b .end)) ∙ e));
-    later = λ a b g k e. omega (arith, leb-false (rk (a .end)) (rk (b .end)) (sym (at-most-rank pool n fits (a .end) (b .end)) ∙ e));
-  }
-
   module _ (a b : RangeSet) (A : Good a) (B : Good b) where
     abbrev u : rk (a .start) ≤ rk (a .end)
     u = A .straight
@@ -69,11 +51,11 @@ module _ (pool : List ℕ) (n : ℕ) (fits : size pool ≤ n) where
     abbrev v : rk (b .start) ≤ rk (b .end)
     v = B .straight
 
-    meet-none-below : high a ≤ low b → meetSets pool a b ≡ []
+    pub meet-none-below : high a ≤ low b → meetSets pool a b ≡ []
     unfolding meetSets
     meet-none-below l = rw (less-yes (a .end) (b .start) (omega arith))
 
-    meet-none-past : high b ≤ low a → meetSets pool a b ≡ []
+    pub meet-none-past : high b ≤ low a → meetSets pool a b ≡ []
     unfolding meetSets
     meet-none-past l = rw (less-no (a .end) (b .start) (omega (arith, u, v)), less-yes (b .end) (a .start) (omega arith))
 
@@ -108,88 +90,21 @@ module _ (pool : List ℕ) (n : ℕ) (fits : size pool ≤ n) where
     unfolding rightOver
     right-none l = rw (less-no (b .end) (a .start) (omega (arith, u)), less-no (b .end) (a .end) (omega arith)) (none-either (before pool a b))
 
-    -- what is past b is the right leftover, where b ends first
-    right-set : high b < high a → rightOver pool a b ≡ rightSet pool a b ∷ []
-    unfolding rightSet
-    right-set l = elim (decLt (rk (b .end)) (rk (a .start))) [
-      | yes h ↦ right-whole (omega arith) ∙ rw (less-yes (b .end) (a .start) h)
-      | no h ↦ right-some (omega arith) l ∙ rw (less-no (b .end) (a .start) (omega arith))
-    ]
+-- ---- where b is upright, what starts below b does not stand past it
 
-    right-set-good : high b < high a → Good (rightSet pool a b)
-    unfolding rightSet
-    right-set-good l = elim (decLt (rk (b .end)) (rk (a .start))) [
-      | yes h ↦ rw (less-yes (b .end) (a .start) h) A
-      | no h ↦
-          let i = invert-end pool n fits (b .end) (B .ends) (omega (arith, rank-top pool n fits (a .end))) in
-          rw (less-no (b .end) (a .start) (omega arith)) (whole-of (invertOf (b .end) true) (a .end) (i .0) (A .ends) (omega (arith, i .1)))
-    ]
+module _ (pool : List ℕ) (a b : RangeSet) (u : upright pool b ≡ true) where
+  abbrev rank : RangeSetItem → ℕ
+  rank x = rankIn pool (size pool) (le-refl (size pool)) x
 
-    left-below : BelowOf Good high (low b) (leftOver pool a b)
-    left-below = elim (decLt (rk (a .start)) (rk (b .start))) [
-      | no h ↦ rw (left-none (omega arith)) tt
-      | yes h ↦ elim (decLt (rk (a .end)) (rk (b .start))) [
-        | yes k ↦ rw (left-whole (omega arith)) (omega arith, A, tt)
-        | no k ↦
-            let i = invert-start pool n fits (b .start) (B .starts) (omega arith) in
-            rw (left-some h (omega arith)) (omega (arith, i .1), whole-of (a .start) (invertOf (b .start) false) (A .starts) (i .0) (omega (arith, i .1)), tt)
-      ]
-    ]
+  straight : rank (b .start) ≤ rank (b .end)
+  straight = leb-true _ _ (sym (at-most-rank pool (size pool) (le-refl (size pool)) (b .start) (b .end)) ∙ u)
 
-  right-set-high : (a b : RangeSet) → high (rightSet pool a b) ≡ high a
-  unfolding rightSet
-  right-set-high a b = go (before pool b a)
-    where
-      go : (t : Bool) → high (cond t a (fromTo (invertOf (b .end) true) (a .end))) ≡ high a
-      go true = refl
-      go false = refl
+  none-past : (t : Bool) → before pool b a ≡ t → leftPart pool a b ≡ cond t [] (leftPart pool a b)
+  none-past false e = refl
+  none-past true e =
+      let past : rank (b .end) < rank (a .start) = ltb-true _ _ (sym (less-rank pool (size pool) (le-refl (size pool)) (b .end) (a .start)) ∙ e) in
+      rw (less-rank pool (size pool) (le-refl (size pool)) (a .start) (b .start), le-ltb (rank (a .start)) (rank (b .start)) (omega (arith, straight)))
 
-  pub right-set-end : (a b : RangeSet) → rightSet pool a b .end ≡ a .end
-  unfolding rightSet
-  right-set-end a b = go (before pool b a)
-    where
-      go : (t : Bool) → cond t a (fromTo (invertOf (b .end) true) (a .end)) .end ≡ a .end
-      go true = refl
-      go false = refl
-
-  pub meeting : Meeting (meetSets pool) endsFirst Good low high
-  meeting = record { spanned = spanned; none-below = meet-none-below; none-past = meet-none-past }
-
-  pub cutting : Cutting (cutSets pool) (leftOver pool) (rightSet pool) endsFirst Good low high
-  cutting = record {
-    spanned = spanned;
-    cut-first = λ a b g k h. rw (right-none a b g k h, append-nil);
-    cut-second = λ a b g k h. rw (right-set a b g k h);
-    whole-below = λ a b g k h. rw (left-whole a b g k h, right-none a b g k (omega (arith, k .straight)));
-    whole-past = λ a b g k h. rw (left-none a b g k (omega (arith, k .straight)), right-whole a b g k h);
-    left-below = left-below;
-    right-good = right-set-good;
-    right-high = λ a b g k h. right-set-high a b;
-  }
-
-  -- ---- accepted lists ascend
-
-  sound-upright : (it : ItemWords) → uprightFault pool it ≡ 0 → upright pool (rangeOf it) ≡ true
-  sound-upright it e = go (malformed it) (outside pool it) (upright pool (rangeOf it)) e
-    where
-      go : (m o t : Bool) → _≡_ {A = ℕ} (cond m 1 (cond o 2 (cond t 0 3))) 0 → t ≡ true
-      go true o t e = absurd (omega arith)
-      go false true t e = absurd (omega arith)
-      go false false true e = refl
-      go false false false e = absurd (omega arith)
-
-  following-above : (e : RangeSetItem) (its : List ItemWords) → AllSound pool its → Following pool e its → AboveOf Good low high (rk e + 1) (map rangeOf its)
-  following-above e [] s f = tt
-  following-above e (it ∷ its) s f = (
-    omega (arith, ltb-true (rk e) (rk (rangeOf it .start)) (sym (less-rank pool n fits e (rangeOf it .start)) ∙ f .0)),
-    upright-whole pool n fits (queryItem it) (sound-upright it (s .0)),
-    following-above (rangeOf it .end) its (s .1) (f .1),
-  )
-
-  pub order-above : (its : List ItemWords) → AllSound pool its → InOrder pool its → AboveOf Good low high 0 (map rangeOf its)
-  order-above [] s o = tt
-  order-above (it ∷ its) s o = (
-    omega arith,
-    upright-whole pool n fits (queryItem it) (sound-upright it (s .0)),
-    following-above (rangeOf it .end) its (s .1) o,
-  )
+  pub left-quick : cond (before pool a b) (a ∷ []) (leftPart pool a b) ≡ leftOver pool a b
+  unfolding leftOver
+  left-quick = ap (cond (before pool a b) (a ∷ [])) (none-past (before pool b a) refl)

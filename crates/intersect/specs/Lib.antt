@@ -1,4 +1,1 @@
 pub mod Pair
-pub mod Lists
-pub mod Sweep
-pub mod Demand

@@ -1,6 +1,7 @@
-// Modules 3 and 4 of document 01: what two items share and what is left over of each, and the three lists of two lists of items.
-// Definitions: specs/Pair.antt, specs/Lists.antt (specs/Sweep.antt is what the pass goes by). Laws: proofs/Demands.antt.
-pub mod many;
+// Module 3 of document 01: what two items share and what is left over of each. `intersect_many` has the three lists of two lists of items.
+// Definitions: specs/Pair.antt. Laws: proofs/Ranked.antt (the pair in ranks).
+//
+// A function marked "inner" is public only because other crates need it. Its definition covers every input.
 pub mod pair;
 
 use item_check::Refusal;
@@ -25,18 +26,5 @@ pub struct QueryItemIntersectionResult {
 // What the pair answers.
 pub enum PairAnswer {
     Pair(QueryItemIntersectionResult),
-    Refused(Refusal),
-}
-
-// How many items the three lists have.
-pub struct ManyCounts {
-    pub in_both: usize,
-    pub ours: usize,
-    pub theirs: usize,
-}
-
-// What the call on two lists answers.
-pub enum ManyAnswer {
-    Counts(ManyCounts),
     Refused(Refusal),
 }

@@ -55,8 +55,8 @@ fn check_two(ours: u32, theirs: u32) -> Checked
     }
 }
 
-// inner: the pair of two ranges.
-pub fn intersect(pool: &[u8], ours: RangeSet, theirs: RangeSet) -> QueryItemIntersectionResult
+// The pair of two ranges.
+fn intersect(pool: &[u8], ours: RangeSet, theirs: RangeSet) -> QueryItemIntersectionResult
     ensures { λ r. ⌜ r ≡ intersection (now (pool .entry)) ours theirs ⌝ }
 {
     QueryItemIntersectionResult {
@@ -87,8 +87,8 @@ pub fn is_before(pool: &[u8], a: RangeSet, b: RangeSet) -> bool
     is_less(compare_in(pool, end, start))
 }
 
-// inner: what two ranges share.
-pub fn meet_sets(pool: &[u8], ours: RangeSet, theirs: RangeSet) -> MaybeSet
+// What two ranges share.
+fn meet_sets(pool: &[u8], ours: RangeSet, theirs: RangeSet) -> MaybeSet
     ensures { λ r. ⌜ asSets r ≡ meetSets (now (pool .entry)) ours theirs ⌝ }
 {
     meet_by(
@@ -99,7 +99,7 @@ pub fn meet_sets(pool: &[u8], ours: RangeSet, theirs: RangeSet) -> MaybeSet
     )
 }
 
-// inner: the same where it is known whether the two are disjoint.
+// inner: what two ranges share, where it is known whether they are disjoint.
 pub fn meet_by(pool: &[u8], disjoint: bool, ours: RangeSet, theirs: RangeSet) -> MaybeSet
     ensures { λ r. ⌜ asSets r ≡ cond disjoint [] (overlap (now (pool .entry)) ours theirs ∷ []) ⌝ }
 {
@@ -140,8 +140,8 @@ fn smaller_of(o: Ordering, x: RangeSetItem, y: RangeSetItem) -> RangeSetItem
     }
 }
 
-// inner: what of a stands left of b.
-pub fn left_over(pool: &[u8], a: RangeSet, b: RangeSet) -> MaybeSet
+// What of a stands left of b.
+fn left_over(pool: &[u8], a: RangeSet, b: RangeSet) -> MaybeSet
     ensures { λ r. ⌜ asSets r ≡ leftOver (now (pool .entry)) a b ⌝ }
 {
     if is_before(pool, a, b) {
@@ -168,8 +168,8 @@ fn left_part(pool: &[u8], a: RangeSet, b: RangeSet) -> MaybeSet
     MaybeSet::NoSet
 }
 
-// inner: what of a stands right of b.
-pub fn right_over(pool: &[u8], a: RangeSet, b: RangeSet) -> MaybeSet
+// What of a stands right of b.
+fn right_over(pool: &[u8], a: RangeSet, b: RangeSet) -> MaybeSet
     ensures { λ r. ⌜ asSets r ≡ rightOver (now (pool .entry)) a b ⌝ }
 {
     if is_before(pool, a, b) {

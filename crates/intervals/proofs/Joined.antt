@@ -34,7 +34,8 @@ module _ (s e : ℕ) (b : Interval) (B : List Interval) where
   unfolding joinFrom
   join-apart h = rw (lt-leb (b .0) e h)
 
-inside-touch : (s e s′ e′ x : ℕ) → s ≤ s′ → s′ ≤ e → inside s (max e e′) x ≡ inside s e x || inside s′ e′ x
+-- of two that overlap or touch, the first starting first, the one made of both
+pub inside-touch : (s e s′ e′ x : ℕ) → s ≤ s′ → s′ ≤ e → inside s (max e e′) x ≡ inside s e x || inside s′ e′ x
 inside-touch s e s′ e′ x h k = elim (where-is s e x) [
   | below p ↦ rw (inside-below s e x p, inside-below s (max e e′) x p, inside-below s′ e′ x (omega arith))
   | in-it p q ↦ rw (inside-yes s e x p q, inside-yes s (max e e′) x p (omega arith))

@@ -7,7 +7,8 @@ use native.Mathlib.Decide.{decLt, decLe}
 use native.Mathlib.Omega.{arith}
 use borrow.Author.Tests.{le-leb, lt-leb}
 use Rattle.intervals.specs.Intervals.{Interval, Apart, Canonical, inside, holds, piece}
-use Rattle.intervals.proofs.Members.{below, in-it, past, where-is, inside-yes, inside-below, inside-past}
+use Rattle.intervals.proofs.Members.{inside-past}
+use Rattle.intervals.proofs.Joined.{inside-touch}
 use Rattle.intervals.proofs.Laws.{piece-some, piece-none, holds-append, holds-piece}
 use Rattle.pairs_sort.specs.Pairs.{joinedFrom, joined}
 
@@ -24,16 +25,6 @@ module _ (s e : ℕ) (b : Interval) (B : List Interval) where
   pub joined-apart : e < b .0 → joinedFrom s e (b ∷ B) ≡ piece s e ++ joinedFrom (b .0) (b .1) B
   unfolding joinedFrom
   joined-apart h = rw (lt-leb (b .0) e h)
-
-inside-touch : (s e s′ e′ x : ℕ) → s ≤ s′ → s′ ≤ e → inside s (max e e′) x ≡ inside s e x || inside s′ e′ x
-inside-touch s e s′ e′ x h k = elim (where-is s e x) [
-  | below p ↦ rw (inside-below s e x p, inside-below s (max e e′) x p, inside-below s′ e′ x (omega arith))
-  | in-it p q ↦ rw (inside-yes s e x p q, inside-yes s (max e e′) x p (omega arith))
-  | past p ↦ rw (inside-past s e x p) (elim (decLt x e′) [
-    | yes q ↦ rw (inside-yes s′ e′ x (omega arith) q, inside-yes s (max e e′) x (omega arith) (omega arith))
-    | no q ↦ rw (inside-past s′ e′ x (omega arith), inside-past s (max e e′) x (omega arith))
-  ])
-]
 
 pub holds-joined-from : (lo s e : ℕ) (B : List Interval) (x : ℕ) → s ≤ lo → Starts lo B
     → holds (joinedFrom s e B) x ≡ inside s e x || holds B x

@@ -11,8 +11,8 @@ use lib.ListN.{length, getD, take, drop, set, length-append, length-take, drop-o
 use lib.Seq.{sets, sets-eq, drop-cons, getD-take}
 use borrow.Author.Tests.{lt-ltb, le-ltb}
 use Rattle.item_check.specs.Checks.{Answer, answered, refused}
-use Rattle.position_intervals.specs.declared.PositionMismatch.{PositionMismatch}
-use Rattle.position_intervals.specs.Reports.{mostReported}
+use Rattle.position_mismatch.specs.declared.PositionMismatch.{PositionMismatch}
+use Rattle.position_mismatch.specs.Reports.{mostReported}
 use Rattle.position_describe.specs.declared.Described.{Described}
 use Rattle.position_describe.specs.declared.Described.the-variants.{Bytes, Refused}
 use Rattle.position_describe.specs.Text.{digits, decimal, positionsWord, firstPart, laterNumbers, numbers, numbersOf, textOf, mostText, describedOf}

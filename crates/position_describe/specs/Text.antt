@@ -5,8 +5,8 @@ use mathlib.Core.List.{List, [], _∷_, _++_}
 use lib.ListN.{length, take, drop}
 use lib.Dec.{ltb}
 use Rattle.item_check.specs.Checks.{Answer, answered, refused, refusedAs}
-use Rattle.position_intervals.specs.declared.PositionMismatch.{PositionMismatch}
-use Rattle.position_intervals.specs.Reports.{mostReported}
+use Rattle.position_mismatch.specs.declared.PositionMismatch.{PositionMismatch}
+use Rattle.position_mismatch.specs.Reports.{mostReported}
 use Rattle.position_describe.specs.declared.Described.{Described}
 use Rattle.position_describe.specs.declared.Described.the-variants.{Bytes, Refused}
 

@@ -7,10 +7,10 @@ ghost use mathlib.Core.List.{_∷_, []};
 ghost use Prim.Native.Nat.{_+_, _≤_, _<_};
 ghost use lib.ListN.{length};
 ghost use Rattle.position_describe.specs.Text.{decimal, firstPart, numbersOf, textOf, describedOf, describeAnswer, describedIn, refusedWith};
-ghost use Rattle.position_intervals.specs.Reports.{mostReported};
+ghost use Rattle.position_mismatch.specs.Reports.{mostReported};
 ghost use Rattle.position_describe.specs.Stored.{stored};
 use item_check::Refusal;
-use position_intervals::PositionMismatch;
+use position_mismatch::PositionMismatch;
 
 // The longest text of a report: so many lent bytes are always room enough.
 pub const MAX_TEXT: usize = 394;

@@ -1,4 +1,4 @@
--- The checks of intervals, proved positions and spans: a turn of each loop, and what an accepted list is. Assumes nothing.
+-- The checks of intervals and of proved positions: a turn of each loop, and what an accepted list is. Assumes nothing.
 use Prim.Native.Nat.{ℕ, suc, _+_, _-_, _%_, _≤_, _<_}
 use mathlib.Core.Path.{_≡_, refl, sym, ap, _∙_}
 use mathlib.Core.Bool.{Bool, true, false, cond, _&&_}
@@ -12,7 +12,8 @@ use borrow.Author.Tests.{lt-ltb, le-ltb, ltb-true, eqb-true}
 use Rattle.intervals.specs.Intervals.{Interval, Apart, Canonical}
 use Rattle.item_check.specs.declared.Checked.{Checked}
 use Rattle.item_check.specs.declared.Checked.the-variants.{Accepted}
-use Rattle.item_check.specs.Checks.{Verdict, accepted, answered, refused, andThen, verdictOf}
+use Rattle.item_check.specs.Checks.{Verdict, accepted, refused, verdictOf}
+use Rattle.item_check.proofs.Laws.{accepts}
 use Rattle.pairs_sort.specs.Pairs.{start, finish, pairsFrom, pairs}
 use Rattle.pairs_sort.proofs.Laws.{pairs-more, pairs-end}
 use Rattle.position_intervals.specs.Inner.{Sound, Ascends}
@@ -118,13 +119,9 @@ ascending-accepted (p ∷ P) h = (omega arith, falling-ascends 1 p P h)
 
 -- ---- what an accepted call knows
 
-pub then-accepted : (v w : Verdict) → andThen v w ≡ accepted → (v ≡ accepted) × (w ≡ accepted)
-then-accepted (answered tt) w h = (refl, h)
-then-accepted (refused n s i) w h = never-accepted h
-
 pub sound : (ws : List ℕ) → intervalsVerdict ws ≡ accepted → Sound ws
 sound ws h =
-    let both = then-accepted (evenVerdict ws) (canonicalVerdict (intervalsOf ws)) h in
+    let both = accepts (evenVerdict ws) (canonicalVerdict (intervalsOf ws)) .0 h in
     record { even = go (eqb (length ws % 2) 0) refl (both .0); canonical = canonical-accepted (intervalsOf ws) (both .1) }
   where
     go : (t : Bool) → eqb (length ws % 2) 0 ≡ t → cond t accepted (refused 1 0 0) ≡ accepted → length ws % 2 ≡ 0
@@ -136,5 +133,5 @@ sound-of ws r e a = sound ws (sym e ∙ ap verdictOf a)
 
 pub sound-proved : (ws P : List ℕ) (r : Checked) → verdictOf r ≡ provedVerdict ws P → r ≡ Accepted → Sound ws × Ascends 0 P
 sound-proved ws P r e a =
-    let both = then-accepted (intervalsVerdict ws) (ascendingVerdict P) (sym e ∙ ap verdictOf a) in
+    let both = accepts (intervalsVerdict ws) (ascendingVerdict P) .0 (sym e ∙ ap verdictOf a) in
     (sound ws (both .0), ascending-accepted P (both .1))

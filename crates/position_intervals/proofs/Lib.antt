@@ -1,13 +1,4 @@
 pub mod Laws
-pub mod Tests
-pub mod Keys
 pub mod Accepted
-pub mod Positions
 pub mod Halves
 pub mod Widths
-pub mod Runs
-pub mod Walks
-pub mod Turns
-pub mod Ranges
-pub mod Builds
-pub mod Steps

@@ -13,7 +13,7 @@ use Rattle.intervals.proofs.Members.{inside-past}
 use Rattle.pairs_sort.specs.Pairs.{start, finish, pairsFrom}
 use Rattle.pairs_sort.proofs.Laws.{pairs-more, pairs-end}
 use Rattle.position_intervals.specs.Given.{intervalsOf}
-use Rattle.position_intervals.specs.Reports.{countUp, positionsOf}
+use Rattle.position_intervals.specs.Asked.{countUp, positionsOf}
 use Rattle.position_intervals.specs.Inner.{Sound}
 
 pub length-count : (s k : ℕ) → length (countUp s k) ≡ k

@@ -1,9 +1,9 @@
--- The checks of intervals, proved positions and spans. Definitions only. Assumes nothing.
+-- The checks of intervals and of proved positions. Definitions only. Assumes nothing.
 use Prim.Native.Nat.{ℕ, suc, _/_, _%_}
 use mathlib.Core.List.{List, [], _∷_}
 use mathlib.Core.Bool.{cond, _&&_}
 use lib.ListN.{length}
-use lib.Dec.{leb, ltb, eqb}
+use lib.Dec.{ltb, eqb}
 use Rattle.intervals.specs.Intervals.{Interval}
 use Rattle.item_check.specs.Checks.{refused, Verdict, accepted, andThen}
 use Rattle.pairs_sort.specs.Pairs.{pairs}
@@ -44,11 +44,3 @@ ascendingVerdict (p ∷ P) = firstFalling 1 p P
 -- 01 Order: 8 after 9
 abbrev pub provedVerdict : List ℕ → List ℕ → Verdict
 provedVerdict ws proved = andThen (intervalsVerdict ws) (ascendingVerdict proved)
-
--- 01 no. 8: spans with start > end or start below the previous end, e; reading A18: empty and touching ones are accepted
-unfoldable pub firstCrossing : ℕ → ℕ → List Interval → Verdict
-firstCrossing i e [] = accepted
-firstCrossing i e (a ∷ S) = cond (leb e (a .0) && leb (a .0) (a .1)) (firstCrossing (suc i) (a .1) S) (refused 8 1 i)
-
-abbrev pub spansVerdict : List ℕ → List Interval → Verdict
-spansVerdict ws spans = andThen (intervalsVerdict ws) (firstCrossing 0 0 spans)

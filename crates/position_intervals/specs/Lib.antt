@@ -1,5 +1,3 @@
-pub mod Keys
-pub mod Covered
 pub mod Given
-pub mod Reports
+pub mod Asked
 pub mod Inner

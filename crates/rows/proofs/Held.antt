@@ -6,12 +6,20 @@ use Rattle.key_order.specs.Boundary.{compareBoundaries}
 use Rattle.query_item.specs.Items.{itemAt, itemsFrom}
 use Rattle.item_check.specs.Checks.{firstBad, firstBreak, strictVerdict}
 use Rattle.intervals.specs.Lists.{meetsOf, sharedOf, cutsOf, withoutOf}
+use Rattle.intervals.specs.Intervals.{inside, holds}
 use Rattle.intersect.specs.Pair.{meetSets, leftOver, rightOver}
-use Rattle.intersect.specs.Lists.{convertAll, sharedItems, onlyItems, wordsAll}
-use Rattle.insert.specs.Insertion.{orderItems, sameItem, endsBelow, clashes, fateOf, staying, merged, mergedWith, placed, inserted}
-use Rattle.insert.specs.Answers.{firstClash}
+use Rattle.intersect_many.specs.Lists.{convertAll, sharedItems, onlyItems, wordsAll}
+use Rattle.insert_order.specs.Order.{orderItems, sameItem, endsBelow, clashes}
+use Rattle.insert_order.specs.Refusals.{firstClash}
+use Rattle.insert.specs.Insertion.{fateOf, staying, merged, mergedWith, placed, inserted}
+use Rattle.pairs_sort.specs.Pairs.{pairsFrom}
+use Rattle.position_intervals.specs.Given.{firstTouching, canonicalVerdict, firstFalling, ascendingVerdict}
+use Rattle.position_intervals.specs.Asked.{countUp, positionsOf}
+use Rattle.position_query.specs.Keys.{beBytes}
+use Rattle.position_query.specs.Covered.{holdsPosition, someHolds, covered, firstFault}
+use Rattle.position_mismatch.specs.Reports.{isIn, keep, missing, reportOf}
 use Rattle.rows.specs.Rows.{Result, Row, rows}
 
 pub rows-hold : map {B = Result} (λ (r : Row). r .0) rows ≡ map (λ (r : Row). r .1) rows
-unfolding compareNumbers compareKeys compareBoundaries itemAt itemsFrom firstBad firstBreak strictVerdict meetsOf sharedOf cutsOf withoutOf meetSets leftOver rightOver convertAll sharedItems onlyItems wordsAll orderItems sameItem endsBelow clashes fateOf staying merged mergedWith placed inserted firstClash
+unfolding compareNumbers compareKeys compareBoundaries itemAt itemsFrom firstBad firstBreak strictVerdict meetsOf sharedOf cutsOf withoutOf meetSets leftOver rightOver convertAll sharedItems onlyItems wordsAll orderItems sameItem endsBelow clashes fateOf staying merged mergedWith placed inserted firstClash inside holds pairsFrom firstTouching canonicalVerdict firstFalling ascendingVerdict countUp positionsOf beBytes holdsPosition someHolds covered firstFault isIn keep missing reportOf
 rows-hold = refl

@@ -1,31 +1,44 @@
 -- The rows of document 01, "Thirteen rows to prove": what is given, by the definitions that the calls promise, and the result that the
--- document states. Keys are single bytes, except the empty one of P6. Definitions only. Assumes nothing.
-use Prim.Native.Nat.{ℕ}
+-- document states. Keys are single bytes, except the empty one of P6 and the position keys of P9. `from_query_items` promises the covered
+-- positions and that its pairs are canonical, so P9 and P10 give the positions that are covered, among some that are asked; that the pairs are
+-- the stated ones is proved in proofs/Written.antt. Definitions only. Assumes nothing.
+use Prim.Native.Nat.{ℕ, _*_}
+use mathlib.Core.Bool.{Bool, false}
 use mathlib.Core.List.{List, [], _∷_, _++_, map}
 use lib.ListN.{length}
 use Rattle.key_order.specs.declared.Ordering.{Ordering}
 use Rattle.key_order.specs.declared.Ordering.the-variants.{Less}
 use Rattle.key_order.specs.Boundary.{compareBoundaries}
 use Rattle.query_item.specs.declared.BoundaryKind.the-variants.{ExclusiveEnd, Inclusive, ExclusiveStart}
+use Rattle.query_item.specs.declared.KeyAt.{KeyAt}
 use Rattle.query_item.specs.declared.ItemWords.{ItemWords}
 use Rattle.query_item.specs.declared.QueryItem.{QueryItem}
 use Rattle.query_item.specs.declared.MaybeItem.{MaybeItem}
 use Rattle.query_item.specs.Items.{keyAt, absent, itemWords, wordsOf, flat}
 use Rattle.query_item.specs.Boundaries.{boundary}
-use Rattle.item_check.specs.Checks.{Answer, answered, refused}
-use Rattle.intersect.specs.declared.ManyCounts.{ManyCounts}
+use Rattle.item_check.specs.Checks.{Answer, answered, refused, Verdict, itemsOf}
+use Rattle.intersect_many.specs.declared.ManyCounts.{ManyCounts}
 use Rattle.intersect.specs.declared.QueryItemIntersectionResult.{QueryItemIntersectionResult}
 use Rattle.intersect.specs.Pair.{asItems, pairAnswer}
-use Rattle.intersect.specs.Lists.{sharedItems, onlyItems, manyAnswer}
-use Rattle.intersect.specs.Demand.{Shown, shown}
+use Rattle.intersect_many.specs.Lists.{sharedItems, onlyItems, manyAnswer}
+use Rattle.intersect_many.specs.Demand.{Shown, shown}
 use Rattle.insert.specs.Answers.{insertAnswer, listAfter}
+use Rattle.position_intervals.specs.Asked.{countUp, containsAnswer}
+use Rattle.position_intervals.specs.Inner.{lastWord}
+use Rattle.position_query.specs.Keys.{keySize}
+use Rattle.position_query.specs.Covered.{covered, queryVerdict}
+use Rattle.position_mismatch.specs.declared.PositionMismatch.{PositionMismatch}
+use Rattle.position_mismatch.specs.Reports.{keep, missingAnswer}
 
--- what a row gives: orders; the pair's shared part, our two leftovers and their two; the three lists; the list after an insertion; or a
--- refusal
+-- what a row gives: orders; the pair's shared part, our two leftovers and their two; the three lists; positions; yes or no; a report; the
+-- list after an insertion; or a refusal
 pub data Result : Type 0 where
   orders : List Ordering → Result
   parts : List Shown → List Shown → List Shown → List Shown → List Shown → Result
   lists : List Shown → List Shown → List Shown → Result
+  positions : List ℕ → Result
+  yesOrNo : Bool → Result
+  report : PositionMismatch → Result
   list : List Shown → Result
   refusal : ℕ → ℕ → ℕ → Result
 
@@ -41,14 +54,14 @@ two code a b = itemWords code 0 (keyAt a 1) (keyAt b 1)
 abbrev one : ℕ → ℕ → ItemWords
 one code a = itemWords code 0 (keyAt a 1) absent
 
-abbrev full : ItemWords
+abbrev pub full : ItemWords
 full = itemWords 3 0 absent absent
 
 -- RangeFrom of the empty key
 abbrev fromEmpty : ItemWords
 fromEmpty = itemWords 4 0 absent absent
 
-abbrev listOf : List ItemWords → List ℕ
+abbrev pub listOf : List ItemWords → List ℕ
 listOf [] = []
 listOf (it ∷ its) = flat it ++ listOf its
 
@@ -81,6 +94,23 @@ listResult pool ours theirs (refused number side index) = refusal number side in
 abbrev listsOf : List ItemWords → List ItemWords → Result
 listsOf ours theirs = listResult digits (listOf ours) (listOf theirs) (manyAnswer digits (listOf ours) (listOf theirs) room room room)
 
+-- the positions that a query covers, among those that are asked, where the checks of its items accept it
+abbrev queryResult : List ℕ → Verdict → Result
+queryResult P (answered u) = positions P
+queryResult P (refused number side index) = refusal number side index
+
+abbrev coveredOf : List ℕ → List ℕ → List ItemWords → ℕ → Result
+coveredOf asked pool its count =
+    queryResult (keep (covered pool (itemsOf (listOf its)) count) asked) (queryVerdict pool (listOf its))
+
+abbrev containsResult : Answer Bool → Result
+containsResult (answered b) = yesOrNo b
+containsResult (refused number side index) = refusal number side index
+
+abbrev missingResult : Answer PositionMismatch → Result
+missingResult (answered r) = report r
+missingResult (refused number side index) = refusal number side index
+
 -- a buffer of the list and room for three items more
 abbrev insertResult : List ItemWords → Answer ℕ → Result
 insertResult after (answered n) = list (map (shown digits) after)
@@ -102,6 +132,25 @@ upTo code b = (code, 0, [], b ∷ [])
 
 abbrev startsAt : ℕ → ℕ → Shown
 startsAt code a = (code, 0, a ∷ [], [])
+
+-- ---- positions: the keys of 2, 5 and 7, and the i-th of them
+
+abbrev pub logKeys : List ℕ
+logKeys = (0 ∷ 0 ∷ 0 ∷ 0 ∷ 0 ∷ 0 ∷ 0 ∷ 2 ∷ []) ++ ((0 ∷ 0 ∷ 0 ∷ 0 ∷ 0 ∷ 0 ∷ 0 ∷ 5 ∷ []) ++ (0 ∷ 0 ∷ 0 ∷ 0 ∷ 0 ∷ 0 ∷ 0 ∷ 7 ∷ []))
+
+abbrev log : ℕ → KeyAt
+log i = keyAt (keySize * i) keySize
+
+-- [2,5), 5, [5,7]
+abbrev pub logItems : List ItemWords
+logItems = itemWords 1 0 (log 0) (log 1) ∷ itemWords 0 0 (log 1) absent ∷ itemWords 2 0 (log 1) (log 2) ∷ []
+
+-- the positions that P9 and P10 are asked about: 0 to 9; the first two u64 and the last two
+abbrev firstTen : List ℕ
+firstTen = countUp 0 10
+
+abbrev ends : List ℕ
+ends = 0 ∷ 1 ∷ 18446744073709551614 ∷ 18446744073709551615 ∷ []
 
 -- ---- the table: what is given, and the document's result
 
@@ -126,6 +175,14 @@ rows =
     ∷ (listsOf (two 2 0 2 ∷ two 2 6 8 ∷ []) (two 2 1 7 ∷ []), lists (between 2 2 3 ∷ between 2 7 8 ∷ []) (between 1 1 2 ∷ between 9 8 9 ∷ []) (between 8 3 7 ∷ []))
     -- P8: {}, {Key 04}: theirs Key 04
     ∷ (listsOf [] (one 0 3 ∷ []), lists [] [] (key 4 ∷ []))
+    -- P9: positions [2,5), 5, [5,7]: count 100: 2..8; count 6: 2..6
+    ∷ (coveredOf firstTen logKeys logItems 100, positions (2 ∷ 3 ∷ 4 ∷ 5 ∷ 6 ∷ 7 ∷ []))
+    ∷ (coveredOf firstTen logKeys logItems 6, positions (2 ∷ 3 ∷ 4 ∷ 5 ∷ []))
+    -- P10: full, count u64::MAX: 0..MAX; MAX not contained
+    ∷ (coveredOf ends [] (full ∷ []) lastWord, positions (0 ∷ 1 ∷ 18446744073709551614 ∷ []))
+    ∷ (containsResult (containsAnswer (0 ∷ lastWord ∷ []) lastWord), yesOrNo false)
+    -- P11: 0..20, proved 3: 19 missing; 0,1,2,4 to 16
+    ∷ (missingResult (missingAnswer (0 ∷ 20 ∷ []) (3 ∷ [])), report (record { total = 19; count = 16; examples = 0 ∷ 1 ∷ 2 ∷ 4 ∷ 5 ∷ 6 ∷ 7 ∷ 8 ∷ 9 ∷ 10 ∷ 11 ∷ 12 ∷ 13 ∷ 14 ∷ 15 ∷ 16 ∷ [] }))
     -- P12: {[01,03],05,09}, insert [02,06): {[01,06),09}
     ∷ (insertOf (two 2 0 2 ∷ one 0 4 ∷ one 0 8 ∷ []) (two 1 1 5), list (between 1 1 6 ∷ key 9 ∷ []))
     -- P13: {[01,05)}, insert [05,09]: both stay

@@ -1,7 +1,7 @@
 -- `insert::insert_item` meets its contract: the checks refuse, or the insertion follows. Assumes nothing.
 use mathlib.Core.Path.{sym}
 use borrow.Author.Needs.{needs}
-use Rattle.insert.proofs.Tails.{input-count}
+use Rattle.insert_order.proofs.Accepted.{input-count}
 use Rattle.insert.proofs.insert_item.Statement.{statement}
 use Rattle.insert.proofs.insert_item.Tie as tie
 

@@ -5,7 +5,7 @@ use mathlib.Core.Path.{_≡_, refl, sym, _∙_}
 use native.Mathlib.Omega.{arith}
 use lib.ListN.{length, getD}
 use denote.Ref.{now}
-use Rattle.position_intervals.specs.Reports.{mostReported}
+use Rattle.position_mismatch.specs.Reports.{mostReported}
 use Rattle.position_describe.specs.Stored.{stored}
 use Rattle.position_describe.proofs.Laws.{decimal-few, numbers-none, stored-none, leftOf, left-turn, left-whole}
 use borrow.Author.Needs.{needs}

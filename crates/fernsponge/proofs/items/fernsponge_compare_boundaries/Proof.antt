@@ -1,26 +1,14 @@
--- `fernsponge::items::fernsponge_compare_boundaries` meets its contract: two kinds, or refused. Assumes nothing.
+-- `fernsponge::items::fernsponge_compare_boundaries` meets its contract: each arm tells the answer that it took apart. Assumes nothing.
 use mathlib.Core.Path.{refl}
-use Rattle.fernsponge.proofs.Given.{refuses}
 use borrow.Author.Needs.{needs}
 use Rattle.fernsponge.proofs.items.fernsponge_compare_boundaries.Statement.{statement}
 use Rattle.fernsponge.proofs.items.fernsponge_compare_boundaries.Tie as tie
 
 returns : tie.Need-returns
-returns c =
-    let test = c .before .before .before .before .before .before .before .before in
-    rw (
-      ← test .before .before .is-kind .ensures,
-      ← test .before .is-kind2 .ensures,
-      test .if1 .taken,
-      ← c .before .before .before .before .before .before .kind-numbered .ensures,
-      ← c .before .before .before .before .before .kind-numbered2 .ensures,
-      ← c .before .before .before .before .compare-boundaries .ensures,
-      ← c .before .before .before .order-number .ensures,
-    ) (c .before .before .give-one .ensures)
+returns c = rw (← c .before .before .before .before .before .before .is-kind .ensures, ← c .before .before .before .before .before .is-kind2 .ensures, c .before .before .before .before .if1 .taken) (refl, rw (c .order-number .ensures, c .before .compare-boundaries .ensures, c .before .before .before .kind-numbered .ensures, c .before .before .kind-numbered2 .ensures))
 
--- a number that is no kind
 returns-2 : tie.Need-returns-2
-returns-2 c = rw (← c .before .before .is-kind .ensures, ← c .before .is-kind2 .ensures, c .if1 .left) (refuses refl)
+returns-2 c = rw (← c .before .before .is-kind .ensures, ← c .before .is-kind2 .ensures, c .if1 .left) (refl, refl)
 
 pub fernsponge-compare-boundaries-spec : {M : Type 1} → statement M
 fernsponge-compare-boundaries-spec =
@@ -32,7 +20,5 @@ fernsponge-compare-boundaries-spec =
     (λ c κs. search needs)
     (λ c κs. search needs)
     (λ c κs. search needs)
-    (λ c κs. search needs)
-    (λ c. search needs)
     returns
     returns-2)

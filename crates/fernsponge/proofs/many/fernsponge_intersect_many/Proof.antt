@@ -1,7 +1,7 @@
 -- `fernsponge::many::fernsponge_intersect_many` meets its contract: the words are those of the call above, and each arm tells the answer
 -- that it took apart. Assumes nothing.
 use mathlib.Core.Path.{sym, ap, _∙_}
-use Rattle.intersect.specs.Lists.{manyOf}
+use Rattle.intersect_many.specs.Lists.{manyOf}
 use Rattle.fernsponge.proofs.Given.{many-counted, many-refused}
 use borrow.Author.Needs.{needs}
 use Rattle.fernsponge.proofs.many.fernsponge_intersect_many.Statement.{statement}

@@ -1,41 +1,47 @@
--- `fernsponge::pair::fernsponge_intersect_items` meets its contract: six words each, or refused. Assumes nothing.
+-- `fernsponge::pair::fernsponge_intersect_items` meets its contract: each arm tells the answer that it took apart. Assumes nothing.
 use mathlib.Core.Path.{refl}
-use borrow.Author.Tests.{eq-eqb, ne-eqb}
-use Rattle.fernsponge.proofs.Given.{refuses}
 use borrow.Author.Needs.{needs}
 use Rattle.fernsponge.proofs.pair.fernsponge_intersect_items.Statement.{statement}
 use Rattle.fernsponge.proofs.pair.fernsponge_intersect_items.Tie as tie
 
--- not six words of ours
 returns : tie.Need-returns
-returns c = rw (ne-eqb _ _ (c .if1 .taken)) (refuses refl)
+returns c =
+    rw (← c .before .before .before .before .before .before .before .before .before .before .before .item-at .ensures, ← c .before .before .before .before .before .before .before .before .before .item-at2 .ensures, ← c .before .before .before .before .before .before .before .before .intersect-items .ensures, c .before .before .before .before .before .before .parts .given .1)
+    (record {
+      number = refl;
+      shared = c .before .before .before .before .maybe-numbers .ensures;
+      ours-before = c .before .before .before .maybe-numbers2 .ensures;
+      ours-after = c .before .before .maybe-numbers3 .ensures;
+      theirs-before = c .before .maybe-numbers4 .ensures;
+      theirs-after = c .maybe-numbers5 .ensures;
+    })
 
--- not six of theirs
 returns-2 : tie.Need-returns-2
-returns-2 c = rw (eq-eqb _ _ (c .before .if1 .left), ne-eqb _ _ (c .if2 .taken)) (refuses refl)
-
-returns-3 : tie.Need-returns-3
-returns-3 c =
-    let given = c .before .before in
-    let asked = given .before in
-    let test = asked .before .before .before .before in
-    rw (
-      eq-eqb _ _ (test .before .if1 .left),
-      eq-eqb _ _ (test .if2 .left),
-      ← asked .before .before .item-at .ensures,
-      ← asked .before .item-at2 .ensures,
-      ← asked .intersect-items .ensures,
-    ) (given .give-pair .ensures)
+returns-2 c =
+    rw (← c .before .before .before .before .before .before .before .item-at .ensures, ← c .before .before .before .before .before .item-at2 .ensures, ← c .before .before .before .before .intersect-items .ensures, c .before .before .refusal .given .1)
+    (record {
+      number = c .refusal-number .ensures;
+      shared = refl;
+      ours-before = refl;
+      ours-after = refl;
+      theirs-before = refl;
+      theirs-after = refl;
+    })
 
 pub fernsponge-intersect-items-spec : {M : Type 1} → statement M
 fernsponge-intersect-items-spec =
     tie.close
     (tie.spec
-    returns
-    returns-2
+    (λ c κs. search needs)
+    (λ c κs. search needs)
+    (λ c κs. search needs)
+    (λ c. search needs)
+    (λ c κs. search needs)
     (λ c κs. search needs)
     (λ c κs. search needs)
     (λ c κs. search needs)
     (λ c κs. search needs)
     (λ c. search needs)
-    returns-3)
+    (λ c κs. search needs)
+    returns
+    returns-2)

@@ -1,5 +1,8 @@
 -- `is_empty` meets its contract: canonical intervals cover nothing exactly where there is none. Assumes nothing.
+use mathlib.Core.Path.{ap}
+use mathlib.Core.Bool.{Bool}
 use denote.Ref.{now}
+use Rattle.item_check.specs.Checks.{answered}
 use Rattle.position_intervals.proofs.Accepted.{sound-of}
 use Rattle.position_intervals.proofs.Widths.{none-covered}
 use borrow.Author.Needs.{needs}
@@ -12,7 +15,8 @@ returns c = rw (← c .before .before .before .check-intervals .ensures, c .befo
 returns-2 : tie.Need-returns-2
 returns-2 c =
     let ws = now (c .before .before .before .before .args .intervals) in
-    rw (← c .before .before .check-intervals .ensures, c .enum-told .given .1, none-covered ws (sound-of ws _ (c .before .before .check-intervals .ensures) (c .enum-told .given .1)))
+    let S = sound-of ws _ (c .before .before .check-intervals .ensures) (c .enum-told .given .1) in
+    rw (← c .before .before .check-intervals .ensures, c .enum-told .given .1) (ap (λ (b : Bool). answered b) (none-covered ws S))
 
 pub is-empty-spec : {M : Type 1} → statement M
 is-empty-spec =

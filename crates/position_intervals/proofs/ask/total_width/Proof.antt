@@ -7,7 +7,7 @@ use native.Mathlib.Omega.{arith}
 use denote.Ref.{now}
 use Rattle.pairs_sort.specs.Pairs.{pairsFrom}
 use Rattle.position_intervals.specs.Given.{intervalsOf}
-use Rattle.position_intervals.specs.Reports.{positionsOf}
+use Rattle.position_intervals.specs.Asked.{positionsOf}
 use Rattle.position_intervals.proofs.Widths.{width-more, width-end, all-fit, nonempty-at}
 use borrow.Author.Needs.{needs}
 use Rattle.position_intervals.proofs.ask.total_width.Statement.{statement}

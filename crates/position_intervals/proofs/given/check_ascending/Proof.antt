@@ -25,10 +25,10 @@ loop-holds c = (search needs, ascending-start _ (omega arith))
 returns-2 : tie.Need-returns-2 Inv-loop μ-loop
 returns-2 c =
     let l = c .before .before .before .before .loop in
-    c .refuse .ensures ∙ sym (l .inv .1 ∙ falling-here _ _ _ (c .before .before .before .loop-test .taken) (c .before .if2 .taken))
+    c .refuse .ensures ∙ sym (l .inv .1 ∙ falling-here _ _ _ (c .before .before .before .loop-test .taken) (omega (arith, c .before .if2 .taken)))
 
 loop-again : tie.Need-loop-again Inv-loop μ-loop
-loop-again c = (search needs, c .before .before .before .loop .inv .1 ∙ falling-next _ _ _ (c .before .before .loop-test .taken) (c .if2 .left))
+loop-again c = (search needs, c .before .before .before .loop .inv .1 ∙ falling-next _ _ _ (c .before .before .loop-test .taken) (omega (arith, c .if2 .left)))
 
 returns-3 : tie.Need-returns-3 Inv-loop μ-loop
 returns-3 c = sym (c .before .loop .inv .1 ∙ falling-end _ _ _ (c .loop-test .left))

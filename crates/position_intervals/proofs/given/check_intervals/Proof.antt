@@ -1,6 +1,6 @@
 -- `check_intervals` meets its contract: an odd number of words is 1, then the pairs are asked. Assumes nothing.
 use mathlib.Core.Path.{_∙_}
-use Rattle.position_intervals.proofs.Tests.{tests}
+use Rattle.item_check.proofs.Tests.{tests}
 use borrow.Author.Needs.{needs}
 use Rattle.position_intervals.proofs.given.check_intervals.Statement.{statement}
 use Rattle.position_intervals.proofs.given.check_intervals.Tie as tie

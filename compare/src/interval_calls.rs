@@ -1,0 +1,291 @@
+//! Module 6: our calls on intervals, proved positions and reports, on all short ones and on random ones, accepted and refused.
+
+use crate::{
+    calls::{Calls, MARK, WIDE_MARK},
+    fernsponge::{self, Report},
+    inputs::lists_of,
+    position_intervals::PositionIntervals,
+    positions::{paper, rust},
+    random::Random,
+    refusals,
+    table::{Held, Row},
+    Size,
+};
+
+const LAST: u64 = u64::MAX;
+
+/// Positions near the two ends.
+const POINTS: [u64; 9] = [0, 1, 2, 3, 4, 5, LAST - 2, LAST - 1, LAST];
+
+/// Numbers with few and many digits.
+const NUMBERS: [u64; 8] = [0, 9, 10, 99, 1_000, 18_446_744, LAST / 2, LAST];
+
+struct All {
+    contains: Calls,
+    len: Calls,
+    is_empty: Calls,
+    missing: Calls,
+    extra: Calls,
+    describe: Calls,
+    calls: usize,
+}
+
+/// Intervals as words, and as the Rust's where they are accepted.
+struct Intervals {
+    words: Vec<u64>,
+    rust: Option<PositionIntervals>,
+}
+
+impl Intervals {
+    fn new(words: Vec<u64>) -> Self {
+        let accepted = refusals::intervals(&words);
+        let rust = accepted.ok().map(|()| rust::intervals(&words));
+        Self { words, rust }
+    }
+}
+
+pub fn run(random: &mut Random, size: &Size) -> Vec<Row> {
+    let mut all = All {
+        contains: Calls::new("contains", "contains, refused"),
+        len: Calls::new("len", "len, refused"),
+        is_empty: Calls::new("is_empty", "is_empty, refused"),
+        missing: Calls::new("missing_from", "missing_from, refused"),
+        extra: Calls::new("extra_in", "extra_in, refused"),
+        describe: Calls::new("describe", "describe, refused"),
+        calls: 0,
+    };
+    all.short();
+    all.refused();
+    all.reports(random);
+    for at in 0..size.random / 8 {
+        let most = match at < 4 * size.long_lists {
+            true => 5_000,
+            false => random.one_of(&[3, 20, 60]),
+        };
+        all.random(random, most);
+    }
+    let calls = [
+        all.contains,
+        all.len,
+        all.is_empty,
+        all.missing,
+        all.extra,
+        all.describe,
+    ];
+    calls.into_iter().flat_map(Calls::rows).collect()
+}
+
+impl All {
+    /// All canonical intervals whose ends are points, each with all sets of proved points.
+    fn short(&mut self) {
+        let sets: Vec<Vec<u64>> = (0..1 << POINTS.len()).map(chosen).collect();
+        for words in sets.iter().filter(|set| set.len() % 2 == 0) {
+            let intervals = Intervals::new(words.clone());
+            self.asked(&intervals, &POINTS);
+            for proved in &sets {
+                self.compared(&intervals, proved);
+            }
+        }
+    }
+
+    /// All lists of four words, beside all lists of three positions: odd ones, empty, touching and crossing pairs, repeated and descending
+    /// positions.
+    fn refused(&mut self) {
+        let positions = lists_of(&[0, 1, LAST], 3, |_| true);
+        for words in lists_of(&[0, 1, 2, LAST], 4, |_| true) {
+            let intervals = Intervals::new(words);
+            self.asked(&intervals, &[1]);
+            for proved in &positions {
+                self.compared(&intervals, proved);
+            }
+        }
+        // the first that breaks a rule decides
+        for words in lists_of(&[[0, 1], [1, 2], [3, 4], [5, 5], [6, 9]], 4, |_| true) {
+            self.asked(&Intervals::new(words.concat()), &[3]);
+        }
+    }
+
+    /// Reports with every number of examples, and totals that are as many, more and fewer; unused places are not 0 in all.
+    fn reports(&mut self, random: &mut Random) {
+        for count in (0..=18).chain([255, 256, LAST]) {
+            let near = [count.saturating_sub(1), count, count.saturating_add(1)];
+            for total in near.into_iter().chain([0, 15, 16, 17, LAST - 1, LAST]) {
+                for number in NUMBERS {
+                    let mixed = std::array::from_fn(|_| random.one_of(&NUMBERS));
+                    for examples in [[number; 16], mixed] {
+                        self.describe(&Report {
+                            total,
+                            count,
+                            examples,
+                        });
+                    }
+                }
+            }
+        }
+    }
+
+    /// Intervals of so many pairs at most, and about as many positions in and near them; some damaged.
+    fn random(&mut self, random: &mut Random, most: usize) {
+        let width = random.one_of(&[3, 8, 100]) * most as u64;
+        let base = random.one_of(&[0, 7, LAST / 2, LAST - width]);
+        let mut some = |count: usize| {
+            let mut points: Vec<u64> = (0..count)
+                .map(|_| base + random.next() % (width + 1))
+                .collect();
+            points.sort();
+            points.dedup();
+            points
+        };
+        let mut words = some(2 * most);
+        if words.len() % 2 != 0 {
+            words.pop();
+        }
+        let mut proved = some(2 * most);
+        if random.below(2) == 0 {
+            // runs of proved positions
+            let run = 1 + random.below(most) as u64;
+            proved.extend((base..).take(run as usize));
+            proved.sort();
+            proved.dedup();
+        }
+        for list in [&mut words, &mut proved] {
+            if !list.is_empty() && random.below(8) == 0 {
+                let (x, y) = (random.below(list.len()), random.below(list.len()));
+                match random.below(3) {
+                    0 => list.swap(x, y),
+                    1 => list[x] = list[y],
+                    _ => drop(list.pop()),
+                }
+            }
+        }
+        let mut asked = vec![base, base + width];
+        for _ in 0..4 {
+            asked.extend(words.get(random.below(words.len() + 1)));
+            asked.push(base + random.next() % (width + 1));
+        }
+        let intervals = Intervals::new(words);
+        self.asked(&intervals, &asked);
+        self.compared(&intervals, &proved);
+    }
+
+    fn asked(&mut self, intervals: &Intervals, positions: &[u64]) {
+        let words = &intervals.words[..];
+        let accepted = refusals::intervals(words);
+        for &position in positions {
+            self.contains.hold(
+                || format!("{position} in {words:?}"),
+                MARK,
+                |yes| fernsponge::contains(words, position, yes),
+                accepted.map(|()| u32::from(paper::contains(words, position))),
+                |yes| Held {
+                    ours: Some(*yes),
+                    other: intervals
+                        .rust
+                        .as_ref()
+                        .map(|rust| u32::from(rust.contains(position))),
+                },
+            );
+        }
+        self.len.hold(
+            || format!("{words:?}"),
+            WIDE_MARK,
+            |rows| fernsponge::len(words, rows),
+            accepted.map(|()| paper::len(words)),
+            |rows| Held {
+                ours: Some(*rows),
+                other: intervals.rust.as_ref().map(PositionIntervals::len),
+            },
+        );
+        // the Rust's own is_empty is built for its tests alone: it asks whether there are no ranges
+        self.is_empty.hold(
+            || format!("{words:?}"),
+            MARK,
+            |yes| fernsponge::is_empty(words, yes),
+            accepted.map(|()| u32::from(words.is_empty())),
+            |yes| Held {
+                ours: Some(*yes),
+                other: intervals
+                    .rust
+                    .as_ref()
+                    .map(|rust| u32::from(rust.ranges().is_empty())),
+            },
+        );
+    }
+
+    fn compared(&mut self, intervals: &Intervals, proved: &[u64]) {
+        self.calls += 1;
+        let words = &intervals.words[..];
+        let accepted = refusals::proved(words, proved);
+        let input = || format!("{words:?} and {proved:?}");
+        let missing = accepted.map(|()| paper::missing_from(words, proved));
+        let extra = accepted.map(|()| paper::extra_in(words, proved));
+        let reports = [missing.clone(), extra.clone()];
+        self.missing.hold(
+            input,
+            marked(),
+            |report| fernsponge::missing_from(words, proved, report),
+            missing,
+            |report| Held {
+                ours: Some(report.clone()),
+                other: (intervals.rust.as_ref()).map(|rust| rust::missing_from(rust, proved)),
+            },
+        );
+        self.extra.hold(
+            input,
+            marked(),
+            |report| fernsponge::extra_in(words, proved, report),
+            extra,
+            |report| Held {
+                ours: Some(report.clone()),
+                other: (intervals.rust.as_ref()).map(|rust| rust::extra_in(rust, proved)),
+            },
+        );
+        if self.calls % 16 == 0 {
+            for report in reports.into_iter().flatten() {
+                self.describe(&report);
+            }
+        }
+    }
+
+    /// A text with room for the longest, with just enough, with one byte more or fewer, and with none at all.
+    fn describe(&mut self, report: &Report) {
+        let length = match report.count {
+            0..=16 => rust::describe(report).len(),
+            _ => 0,
+        };
+        for room in [394, length, length + 1, length.saturating_sub(1), 0] {
+            let lent = vec![0xFE; room];
+            self.describe.hold(
+                || format!("{report:?}, {room} bytes lent"),
+                (lent.clone(), WIDE_MARK),
+                |(out, length)| fernsponge::describe(report, out, length),
+                paper::describe(report, &lent),
+                |(out, length)| Held {
+                    ours: text(out, *length),
+                    other: rust::describe(report),
+                },
+            );
+        }
+    }
+}
+
+/// The points whose bit is set.
+fn chosen(bits: u32) -> Vec<u64> {
+    let set = |at: &usize| bits >> at & 1 == 1;
+    (0..POINTS.len()).filter(set).map(|at| POINTS[at]).collect()
+}
+
+/// The text that is told to be at the front: none where there is no room for so much.
+fn text(out: &[u8], length: u64) -> String {
+    let text = out.get(..length as usize).unwrap_or(&[]);
+    String::from_utf8_lossy(text).to_string()
+}
+
+/// A report lent for writing.
+fn marked() -> Report {
+    Report {
+        total: WIDE_MARK,
+        count: WIDE_MARK + 1,
+        examples: std::array::from_fn(|at| WIDE_MARK + 2 + at as u64),
+    }
+}

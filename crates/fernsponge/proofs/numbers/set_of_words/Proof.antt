@@ -1,0 +1,18 @@
+use Rattle.fernsponge.specs.Answers.{setOfWords}
+use borrow.Author.Needs.{needs}
+use Rattle.fernsponge.proofs.numbers.set_of_words.Statement.{statement}
+use Rattle.fernsponge.proofs.numbers.set_of_words.Tie as tie
+
+returns : tie.Need-returns
+unfolding setOfWords
+returns c = cc
+
+pub set-of-words-spec : {M : Type 1} → statement M
+set-of-words-spec =
+    tie.close
+    (tie.spec
+    (λ c κs. search needs)
+    (λ c κs. search needs)
+    (λ c κs. search needs)
+    (λ c κs. search needs)
+    returns)

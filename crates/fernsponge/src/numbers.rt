@@ -1,0 +1,155 @@
+// How answers are told in numbers.
+ghost use mathlib.Core.Path.{_≡_};
+ghost use mathlib.Core.List.{_∷_};
+ghost use Rattle.query_item.specs.Items.{flat};
+ghost use Rattle.query_item.specs.Boundaries.{withKey};
+ghost use Rattle.fernsponge.specs.Answers.{orderNumber, boolNumber, kindNumber, isKind, kindNumbered, refusalNumber, setNumbers, setOfWords, maybeNumbers, containmentNumbers};
+use item_ask::KeyContainmentResult;
+use item_check::Refusal;
+use key_order::Ordering;
+use query_item::BoundaryKind;
+use query_item::ItemWords;
+use query_item::KeyAt;
+use query_item::MaybeItem;
+use query_item::RangeSet;
+use query_item::RangeSetItem;
+use query_item::boundary::key_of;
+use query_item::boundary::kind_of;
+use query_item::boundary::least;
+use query_item::item::ITEM_SIZE;
+use query_item::item::words_of;
+
+// Input that is malformed: number 1, side 0, index 0.
+pub(crate) const MALFORMED: u64 = 1;
+
+// The numbers of an item that may be missing: how many there are, and its words.
+pub(crate) const MAYBE_SIZE: usize = ITEM_SIZE + 1;
+
+// What a greater index is told as, so that a refusal's number fits 64 bits.
+const MOST_INDEX: usize = 1099511627776;
+
+pub(crate) fn order_number(o: Ordering) -> u32
+    ensures { λ r. ⌜ r ≡ orderNumber o ⌝ }
+{
+    match o {
+        Ordering::Less => 0,
+        Ordering::Equal => 1,
+        Ordering::Greater => 2,
+    }
+}
+
+pub(crate) fn bool_number(b: bool) -> u32
+    ensures { λ r. ⌜ r ≡ boolNumber b ⌝ }
+{
+    if b { 1 } else { 0 }
+}
+
+pub(crate) fn kind_number(kind: BoundaryKind) -> u32
+    ensures { λ r. ⌜ r ≡ kindNumber kind ⌝ }
+{
+    match kind {
+        BoundaryKind::UnboundedStart => 0,
+        BoundaryKind::UnboundedEnd => 1,
+        BoundaryKind::Inclusive => 2,
+        BoundaryKind::ExclusiveStart => 3,
+        BoundaryKind::ExclusiveEnd => 4,
+    }
+}
+
+pub(crate) fn is_kind(n: u32) -> bool
+    ensures { λ r. ⌜ r ≡ isKind n ⌝ }
+{
+    n <= 4
+}
+
+pub(crate) fn kind_numbered(n: u32) -> BoundaryKind
+    ensures { λ r. ⌜ r ≡ kindNumbered n ⌝ }
+{
+    match n {
+        0 => BoundaryKind::UnboundedStart,
+        1 => BoundaryKind::UnboundedEnd,
+        2 => BoundaryKind::Inclusive,
+        3 => BoundaryKind::ExclusiveStart,
+        _ => BoundaryKind::ExclusiveEnd,
+    }
+}
+
+pub(crate) fn refusal_number(refusal: Refusal) -> u64
+    ensures { λ r. ⌜ r ≡ refusalNumber (refusal .number) (refusal .side) (refusal .index) ⌝ }
+{
+    let index = least(refusal.index, MOST_INDEX);
+    refusal.number as u64 + 256 * refusal.side as u64 + 65536 * index as u64
+}
+
+// ---- six words, and seven
+
+pub(crate) fn set_numbers(set: RangeSet) -> [u32; ITEM_SIZE]
+    ensures { λ r. ⌜ r ≡ setNumbers set ⌝ }
+{
+    let from = set.start;
+    let to = set.end;
+    let start = key_of(from);
+    let end = key_of(to);
+    [
+        kind_number(kind_of(from)),
+        kind_number(kind_of(to)),
+        start.offset,
+        start.length,
+        end.offset,
+        end.length,
+    ]
+}
+
+pub(crate) fn set_of_words(words: ItemWords) -> RangeSet
+    ensures { λ r. ⌜ r ≡ setOfWords words ⌝ }
+{
+    let a = words.start;
+    let b = words.end;
+    let start = with_key(kind_numbered(words.code), a);
+    let end = with_key(kind_numbered(words.wrapper), b);
+    RangeSet { start, end }
+}
+
+fn with_key(kind: BoundaryKind, key: KeyAt) -> RangeSetItem
+    ensures { λ r. ⌜ r ≡ withKey kind key ⌝ }
+{
+    match kind {
+        BoundaryKind::UnboundedStart => RangeSetItem::UnboundedStart,
+        BoundaryKind::UnboundedEnd => RangeSetItem::UnboundedEnd,
+        BoundaryKind::Inclusive => RangeSetItem::Inclusive(key),
+        BoundaryKind::ExclusiveStart => RangeSetItem::ExclusiveStart(key),
+        BoundaryKind::ExclusiveEnd => RangeSetItem::ExclusiveEnd(key),
+    }
+}
+
+pub(crate) fn maybe_numbers(maybe: MaybeItem) -> [u32; MAYBE_SIZE]
+    ensures { λ r. ⌜ r ≡ maybeNumbers maybe ⌝ }
+{
+    match maybe {
+        MaybeItem::NoItem => [0; MAYBE_SIZE],
+        MaybeItem::Item(q) => one_item(words_of(0, q)),
+    }
+}
+
+fn one_item(words: ItemWords) -> [u32; MAYBE_SIZE]
+    ensures { λ r. ⌜ r ≡ 1 ∷ flat words ⌝ }
+{
+    [
+        1,
+        words.code,
+        words.wrapper,
+        words.start.offset,
+        words.start.length,
+        words.end.offset,
+        words.end.length,
+    ]
+}
+
+pub(crate) fn containment_numbers(c: KeyContainmentResult) -> [u32; 2]
+    ensures { λ r. ⌜ r ≡ containmentNumbers c ⌝ }
+{
+    [
+        bool_number(c.included),
+        bool_number(c.on_bounds_not_included),
+    ]
+}

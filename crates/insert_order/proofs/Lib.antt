@@ -1,0 +1,6 @@
+pub mod Reading
+pub mod Ranked
+pub mod Seen
+pub mod Ordered
+pub mod Accepted
+mod Examples

@@ -1,0 +1,44 @@
+-- How the test of the order reads a list: an item that is repeated among those that are left at an index, and the item before one. Assumes
+-- nothing.
+use Prim.Native.Nat.{ℕ, zero, suc, _+_, _-_, _≤_, _<_}
+use mathlib.Core.Path.{_≡_, refl}
+use mathlib.Core.Bool.{true, false, not, _&&_}
+use mathlib.Core.List.{List}
+use native.Mathlib.Omega.{arith}
+use Rattle.query_item.specs.declared.ItemWords.{ItemWords}
+use Rattle.query_item.specs.Items.{itemAt, itemsFrom}
+use Rattle.item_check.proofs.Scans.{items-end, items-more}
+use Rattle.insert_order.specs.Order.{orderItems, plain, sameItem, endsBelow}
+use Rattle.insert_order.specs.Passes.{lastOrder, meetsPlain, repeats}
+
+-- ---- an item that is repeated
+
+module _ (pool ws : List ℕ) (i count : ℕ) where
+  abbrev left : ℕ → List ItemWords
+  left j = itemsFrom ws j (count - j)
+
+  pub repeats-here : (it : ItemWords) {old : ItemWords} → i < count → old ≡ itemAt ws i → sameItem pool old it ≡ true → repeats pool (left i) it ≡ true
+  unfolding repeats
+  repeats-here it h p q = rw (items-more ws i count h, ← p, q)
+
+  pub repeats-next : (it : ItemWords) {old : ItemWords} → i < count → old ≡ itemAt ws i → sameItem pool old it ≡ false
+      → repeats pool (left i) it ≡ repeats pool (left (i + 1)) it
+  unfolding repeats
+  repeats-next it h p q = rw (items-more ws i count h, ← p, q)
+
+  pub repeats-end : (it : ItemWords) → count ≤ i → repeats pool (left i) it ≡ false
+  unfolding repeats
+  repeats-end it h = rw (items-end ws i count h)
+
+-- ---- the item before an index
+
+module _ (pool ws : List ℕ) where
+  pub last-before : (i : ℕ) (it : ItemWords) → (i ≡ 0 → ⊥) → lastOrder pool ws i it ≡ orderItems pool (itemAt ws (i - 1)) it
+  unfolding lastOrder
+  last-before zero it h = absurd (h refl)
+  last-before (suc i) it h = let e : suc i - 1 ≡ i = omega arith in rw e
+
+  pub meets-before : (p : ℕ) (it : ItemWords) → (p ≡ 0 → ⊥) → meetsPlain pool ws p it ≡ plain it && not (endsBelow pool (itemAt ws (p - 1)) it)
+  unfolding meetsPlain
+  meets-before zero it h = absurd (h refl)
+  meets-before (suc p) it h = let e : suc p - 1 ≡ p = omega arith in rw e

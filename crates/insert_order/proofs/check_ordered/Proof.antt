@@ -1,0 +1,15 @@
+-- `insert_order::check_ordered` meets its contract: a bad item is refused first, then the order. Assumes nothing.
+use borrow.Author.Needs.{needs}
+use Rattle.insert_order.proofs.check_ordered.Statement.{statement}
+use Rattle.insert_order.proofs.check_ordered.Tie as tie
+
+returns : tie.Need-returns
+returns c = rw (← c .before .before .before .check-items .ensures, c .before .r .given .1)
+
+returns-2 : tie.Need-returns-2
+returns-2 c = rw (← c .before .before .before .check-items .ensures, c .before .enum-told .given .1) (c .check-order .ensures)
+
+pub check-ordered-spec : {M : Type 1} → statement M
+check-ordered-spec =
+    tie.close
+    (tie.spec (λ c κs. search needs) (λ c. search needs) (λ c. search needs) (λ c κs. search needs) returns returns-2)

@@ -1,0 +1,46 @@
+-- DEMAND 3 of document 01, as laws of the lists that `intersect_many_ordered` writes, for any accepted lists A, B, C over one pool.
+-- What a reader must believe is in specs/Demand.antt and specs/Lists.antt; each law is proved in Demanded.antt. Assumes nothing.
+use Prim.Native.Nat.{ℕ}
+use mathlib.Core.Path.{_≡_}
+use mathlib.Core.Bool.{false, not, _&&_, _||_}
+use mathlib.Core.List.{List}
+use Rattle.intersect_many.specs.Lists.{sharedItems, onlyItems}
+use Rattle.intersect_many.specs.Demand.{sharedWords, withoutWords, Accepted, Fits, listHolds, SameItems}
+use Rattle.intersect_many.proofs.Demanded as demanded
+
+module _ (pool A B : List ℕ) (a : Accepted pool A) (b : Accepted pool B) where
+  -- 1. Shared holds exactly what both hold, without exactly what A holds and B does not: keys k of any length
+  pub shared-holds : (k : List ℕ) → listHolds pool (sharedWords pool A B) k ≡ listHolds pool A k && listHolds pool B k
+  shared-holds k = demanded.shared-holds pool A B a b k
+
+  pub without-holds : (k : List ℕ) → listHolds pool (withoutWords pool A B) k ≡ listHolds pool A k && not (listHolds pool B k)
+  without-holds k = demanded.without-holds pool A B a b k
+
+  -- so every key of A is in one of the two, no other key is, and none is in both
+  pub in-one : (k : List ℕ) → listHolds pool A k ≡ listHolds pool (sharedWords pool A B) k || listHolds pool (withoutWords pool A B) k
+  in-one k = demanded.in-one pool A B a b k
+
+  pub not-in-both : (k : List ℕ) → listHolds pool (sharedWords pool A B) k && listHolds pool (withoutWords pool A B) k ≡ false
+  not-in-both k = demanded.not-in-both pool A B a b k
+
+  -- 2. Sharing gives the same list, item by item, in either order
+  pub shared-comm : SameItems pool (sharedWords pool A B) (sharedWords pool B A)
+  shared-comm = demanded.shared-comm pool A B a b
+
+  -- 4. Each result is an accepted list
+  pub shared-accepted : Fits (sharedItems pool A B) → Accepted pool (sharedWords pool A B)
+  shared-accepted f = demanded.shared-accepted pool A B a b f
+
+  pub without-accepted : Fits (onlyItems pool A B) → Accepted pool (withoutWords pool A B)
+  without-accepted f = demanded.without-accepted pool A B a b f
+
+module _ (pool A B C : List ℕ) (a : Accepted pool A) (b : Accepted pool B) (c : Accepted pool C) where
+  -- 2. and in either grouping
+  pub shared-assoc : Fits (sharedItems pool A B) → Fits (sharedItems pool B C)
+      → SameItems pool (sharedWords pool (sharedWords pool A B) C) (sharedWords pool A (sharedWords pool B C))
+  shared-assoc f g = demanded.shared-assoc pool A B C a b c f g
+
+  -- 3. A without B then C is A without C then B
+  pub without-swap : Fits (onlyItems pool A B) → Fits (onlyItems pool A C)
+      → SameItems pool (withoutWords pool (withoutWords pool A B) C) (withoutWords pool (withoutWords pool A C) B)
+  without-swap f g = demanded.without-swap pool A B C a b c f g

@@ -1,0 +1,49 @@
+-- The ranges of a list that are left at an index. Assumes nothing.
+use Prim.Native.Nat.{ℕ, _+_, _/_, _≤_, _<_}
+use mathlib.Core.Path.{_≡_}
+use mathlib.Core.List.{List, [], _∷_, _++_}
+use native.Mathlib.Decide.{decLt}
+use native.Mathlib.Nat.{sub-zero}
+use native.Mathlib.Omega.{arith}
+use lib.ListN.{length}
+use Rattle.query_item.specs.declared.RangeSet.{RangeSet}
+use Rattle.query_item.specs.Items.{itemSize}
+use Rattle.query_item.specs.Boundaries.{setAt, toQueryItem}
+use Rattle.item_check.proofs.Laws.{items-end, items-more}
+use Rattle.intersect.specs.Pair.{asItems}
+use Rattle.intersect_many.specs.Lists.{setsOf, convertAll}
+use Rattle.intersect_many.specs.Sweep.{setsLeft, restLeft}
+
+-- at the first index all are
+pub sets-all : (ws : List ℕ) → setsLeft ws 0 ≡ setsOf ws
+sets-all ws = rw sub-zero
+
+module _ (ws : List ℕ) (i : ℕ) where
+  pub sets-end : length ws / itemSize ≤ i → setsLeft ws i ≡ []
+  sets-end h = rw (items-end ws i (length ws / itemSize) h)
+
+  pub sets-more : i < length ws / itemSize → setsLeft ws i ≡ setAt ws i ∷ setsLeft ws (i + 1)
+  sets-more h = rw (items-more ws i (length ws / itemSize) h)
+
+  pub rest-end : (x : RangeSet) → length ws / itemSize ≤ i → restLeft ws i x ≡ []
+  rest-end x h = rw (sets-end h)
+
+  pub rest-more : (x : RangeSet) → i < length ws / itemSize → restLeft ws i x ≡ x ∷ setsLeft ws (i + 1)
+  rest-more x h = rw (sets-more h)
+
+  -- whole as it is in the list
+  pub rest-whole : restLeft ws i (setAt ws i) ≡ setsLeft ws i
+  rest-whole = elim (decLt i (length ws / itemSize)) [
+    | yes h ↦ rw (rest-more (setAt ws i) h, sets-more h)
+    | no h ↦ rw (rest-end (setAt ws i) (omega arith), sets-end (omega arith))
+  ]
+
+pub convert-more : (pool ws : List ℕ) (i : ℕ) → i < length ws / itemSize
+    → convertAll pool (setsLeft ws i) ≡ asItems (toQueryItem pool (setAt ws i)) ++ convertAll pool (setsLeft ws (i + 1))
+unfolding convertAll
+convert-more pool ws i h = rw (sets-more ws i h)
+
+pub convert-rest : (pool ws : List ℕ) (i : ℕ) (x : RangeSet) → i < length ws / itemSize
+    → convertAll pool (restLeft ws i x) ≡ asItems (toQueryItem pool x) ++ convertAll pool (setsLeft ws (i + 1))
+unfolding convertAll
+convert-rest pool ws i x h = rw (rest-more ws i x h)

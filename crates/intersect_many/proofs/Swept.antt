@@ -1,0 +1,331 @@
+-- The one pass over both lists, a turn at a time: what is left to write of each of the three lists at the two indexes. Assumes nothing.
+use Prim.Native.Nat.{ℕ, _+_, _/_, _≤_, _<_}
+use mathlib.Core.Path.{_≡_, refl, sym, ap, _∙_}
+use mathlib.Core.Bool.{Bool, true, false}
+use mathlib.Core.List.{List, [], _∷_}
+use mathlib.Core.Logic.{_⊎_, inl, inr}
+use native.Mathlib.Nat.{le-refl}
+use native.Mathlib.Omega.{arith}
+use lib.ListN.{length}
+use borrow.Author.Tests.{le-leb, lt-leb}
+use Rattle.key_order.specs.declared.Ordering.{Ordering}
+use Rattle.key_order.proofs.Numbers.{Says}
+use Rattle.key_order.proofs.Line.{size}
+use Rattle.query_item.specs.declared.RangeSetItem.{RangeSetItem}
+use Rattle.query_item.specs.declared.RangeSet.{RangeSet}
+use Rattle.query_item.specs.Items.{itemSize}
+use Rattle.query_item.specs.Boundaries.{compareIn, setAt}
+use Rattle.query_item.proofs.Laws.{rankIn, at-most-rank, rank-says-in, whole-upright}
+use Rattle.item_check.specs.Checks.{itemsOf}
+use Rattle.item_check.proofs.Laws.{AcceptedList}
+use Rattle.intervals.proofs.Laws.{AboveOf, Meeting, Cutting}
+use Rattle.intervals.proofs.Laws.{sweepOf, sweep-first, sweep-second, sweep-nil, sweep-is-shared, sweep-skip}
+use Rattle.intervals.proofs.Laws.{stripOf, strip-first, strip-second, strip-nil, strip-is-without, strip-skip, above-le}
+use Rattle.intersect_many.specs.declared.ManyCounts.{ManyCounts}
+use Rattle.intersect.specs.Pair.{meetSets, leftOver}
+use Rattle.intersect_many.specs.Lists.{setsOf, convertAll, sharedItems, cutSets, onlyItems}
+use Rattle.intersect_many.specs.Sweep.{rightSet, setsLeft, restLeft, Put, Turn}
+use Rattle.intersect_many.proofs.Pieces.{convert-append, meet-few, left-few}
+use Rattle.intersect_many.proofs.Ranked as ranked
+use Rattle.intersect_many.proofs.Written.{Left, left-start, left-put, left-as}
+use Rattle.intersect_many.proofs.Rests.{sets-all, sets-end, sets-more, rest-end, rest-more, rest-whole}
+
+-- ranks are taken at the pool's size
+module _ (pool : List ℕ) where
+  abbrev pub rk : RangeSetItem → ℕ
+  rk x = rankIn pool (size pool) (le-refl (size pool)) x
+
+  abbrev pub Good : RangeSet → Type 0
+  Good a = ranked.Good pool (size pool) (le-refl (size pool)) a
+
+  abbrev low : RangeSet → ℕ
+  low a = rk (a .start)
+
+  abbrev high : RangeSet → ℕ
+  high a = rk (a .end) + 1
+
+  abbrev endsFirst : RangeSet → RangeSet → Bool
+  endsFirst a b = ranked.endsFirst pool (size pool) (le-refl (size pool)) a b
+
+  abbrev pub Ascends : ℕ → List RangeSet → Type 0
+  Ascends lo A = AboveOf Good low high lo A
+
+  meeting : Meeting (meetSets pool) endsFirst Good low high
+  meeting = ranked.meeting pool (size pool) (le-refl (size pool))
+
+  cutting : Cutting (cutSets pool) (leftOver pool) (rightSet pool) endsFirst Good low high
+  cutting = ranked.cutting pool (size pool) (le-refl (size pool))
+
+  abbrev sweep : List RangeSet → List RangeSet → List RangeSet
+  sweep A B = sweepOf (meetSets pool) endsFirst A B
+
+  abbrev strip : List RangeSet → List RangeSet → List RangeSet
+  strip A B = stripOf (leftOver pool) (rightSet pool) endsFirst A B
+
+  ends-yes : (a b : RangeSet) → rk (a .end) ≤ rk (b .end) → endsFirst a b ≡ true
+  ends-yes a b l = at-most-rank pool (size pool) (le-refl (size pool)) (a .end) (b .end) ∙ le-leb (rk (a .end)) (rk (b .end)) l
+
+  ends-no : (a b : RangeSet) → rk (b .end) < rk (a .end) → endsFirst a b ≡ false
+  ends-no a b l = at-most-rank pool (size pool) (le-refl (size pool)) (a .end) (b .end) ∙ lt-leb (rk (a .end)) (rk (b .end)) l
+
+  pub ranks-say : (x y : RangeSetItem) {o : Ordering} → compareIn pool x y ≡ o → Says o (rk x) (rk y)
+  ranks-say x y e = rw e at (rank-says-in pool (size pool) (le-refl (size pool)) x y)
+
+  -- the list from the next index on
+  pub next-ascends : (ws : List ℕ) (i : ℕ) → i < length ws / itemSize → Ascends 0 (setsLeft ws i) → Ascends (high (setAt ws i)) (setsLeft ws (i + 1))
+  next-ascends ws i h a = (rw (sets-more ws i h) at a) .2
+
+  pub next-ascends-0 : (ws : List ℕ) (i : ℕ) → i < length ws / itemSize → Ascends 0 (setsLeft ws i) → Ascends 0 (setsLeft ws (i + 1))
+  next-ascends-0 ws i h a = above-le Good low high 0 (high (setAt ws i)) (setsLeft ws (i + 1)) (omega arith) (next-ascends ws i h a)
+
+  -- ---- one side's own list: of the item at its index i, x is left; j is the other side's index
+
+  pub record Only (own other out₀ out : List ℕ) (n i j : ℕ) (x : RangeSet) : Type 0 where
+    pub left : Left (onlyItems pool own other) out₀ 0 out n (convertAll pool (strip (restLeft own i x) (setsLeft other j)))
+    pub ascends : Ascends 0 (restLeft own i x)
+    pub same-end : x .end ≡ setAt own i .end
+
+  pub only-start : (own other out : List ℕ) → Ascends 0 (setsLeft own 0) → Ascends 0 (setsLeft other 0) → Only own other out out 0 0 0 (setAt own 0)
+  unfolding onlyItems
+  only-start own other out a b = record {
+    left = left-as (left-start (onlyItems pool own other) out 0) _
+        (ap (convertAll pool) (rw (rest-whole own 0, sets-all own, sets-all other) (sym (strip-is-without cutting (setsOf own) (setsOf other) (rw sets-all at a) (rw sets-all at b)))));
+    ascends = rw (rest-whole own 0) a;
+    same-end = refl;
+  }
+
+  module _ (own other out₀ : List ℕ) {out out′ : List ℕ} {n n′ : ℕ} (i j : ℕ) (x : RangeSet) (v : Only own other out₀ out n i j x)
+      (hi : i < length own / itemSize) (hj : j < length other / itemSize)
+      (a : Ascends 0 (setsLeft own i)) (b : Ascends 0 (setsLeft other j))
+      (p : Put out n (convertAll pool (leftOver pool x (setAt other j))) out′ n′) where
+    first-left : strip (restLeft own i x) (setsLeft other j) ≡ strip (x ∷ setsLeft own (i + 1)) (setAt other j ∷ setsLeft other (j + 1))
+    first-left = rw (rest-more own i x hi, sets-more other j hj)
+
+    -- the side's own item ends first, or with the other
+    pub only-next : rk (setAt own i .end) ≤ rk (setAt other j .end) → Only own other out₀ out′ n′ (i + 1) j (setAt own (i + 1))
+    only-next l = record {
+      left = left-put (v .left) (convertAll pool (leftOver pool x (setAt other j))) _
+          (ap (convertAll pool)
+          (first-left ∙ strip-first (leftOver pool) (rightSet pool) endsFirst x (setsLeft own (i + 1)) (setAt other j) (setsLeft other (j + 1)) (ends-yes x (setAt other j) (rw (v .same-end) l)))
+          ∙ convert-append pool (leftOver pool x (setAt other j)) _
+          ∙ rw (rest-whole own (i + 1), ← sets-more other j hj))
+          p;
+      ascends = rw (rest-whole own (i + 1)) (next-ascends-0 own i hi a);
+      same-end = refl;
+    }
+
+    -- the other's item ends first
+    pub only-cut : rk (setAt other j .end) < rk (setAt own i .end) → Only own other out₀ out′ n′ i (j + 1) (rightSet pool x (setAt other j))
+    only-cut l =
+        let l′ : rk (setAt other j .end) < rk (x .end) = rw (v .same-end) l in
+        let rest = rw (rest-more own i x hi) at (v .ascends) in
+        let item = rw (sets-more other j hj) at b in
+        record {
+          left = left-put (v .left) (convertAll pool (leftOver pool x (setAt other j))) _
+              (ap (convertAll pool)
+              (first-left ∙ strip-second (leftOver pool) (rightSet pool) endsFirst x (setsLeft own (i + 1)) (setAt other j) (setsLeft other (j + 1)) (ends-no x (setAt other j) l′))
+              ∙ convert-append pool (leftOver pool x (setAt other j)) _
+              ∙ rw (← rest-more own i (rightSet pool x (setAt other j)) hi))
+              p;
+          ascends = rw (rest-more own i (rightSet pool x (setAt other j)) hi) (
+            omega arith,
+            cutting .right-good x (setAt other j) (rest .1) (item .1) (omega arith),
+            rw (cutting .right-high x (setAt other j) (rest .1) (item .1) (omega arith)) (rest .2),
+          );
+          same-end = ranked.right-set-end pool (size pool) (le-refl (size pool)) x (setAt other j) ∙ v .same-end;
+        }
+
+    -- both end together
+    pub only-both : rk (setAt own i .end) ≡ rk (setAt other j .end) → Only own other out₀ out′ n′ (i + 1) (j + 1) (setAt own (i + 1))
+    only-both e =
+        let next = only-next (omega arith) in
+        record {
+          left = left-as (next .left) _ (ap (convertAll pool) (rw (rest-whole own (i + 1), sets-more other j hj)
+              (strip-skip cutting (setsLeft own (i + 1)) (setAt other j) (setsLeft other (j + 1))
+              (above-le Good low high (high (setAt other j)) (high (setAt own i)) (setsLeft own (i + 1)) (omega arith) (next-ascends own i hi a))
+              (rw (sets-more other j hj) at b))));
+          ascends = next .ascends;
+          same-end = refl;
+        }
+
+  -- the other list has ended, or this one
+  pub only-end : {own other out₀ out : List ℕ} {n : ℕ} (i j : ℕ) (x : RangeSet) → Only own other out₀ out n i j x
+      → (length own / itemSize ≤ i) ⊎ (length other / itemSize ≤ j)
+      → Left (onlyItems pool own other) out₀ 0 out n (convertAll pool (restLeft own i x))
+  unfolding stripOf
+  only-end {own} {other} i j x v (inl h) = left-as (v .left) _ (rw (rest-end own i x h))
+  only-end {own} {other} i j x v (inr h) = left-as (v .left) _ (rw (sets-end other j h, strip-nil (leftOver pool) (rightSet pool) endsFirst (restLeft own i x)))
+
+  -- ---- the shared list
+
+  abbrev pub Shared : (ours theirs out₀ out : List ℕ) (n i j : ℕ) → Type 0
+  Shared ours theirs out₀ out n i j = Left (sharedItems pool ours theirs) out₀ 0 out n (convertAll pool (sweep (setsLeft ours i) (setsLeft theirs j)))
+
+  pub shared-start : (ours theirs out : List ℕ) → Ascends 0 (setsLeft ours 0) → Ascends 0 (setsLeft theirs 0) → Shared ours theirs out out 0 0 0
+  unfolding sharedItems
+  shared-start ours theirs out a b =
+      left-as (left-start (sharedItems pool ours theirs) out 0) _
+      (ap (convertAll pool) (rw (sets-all ours, sets-all theirs) (sym (sweep-is-shared meeting (setsOf ours) (setsOf theirs) (rw sets-all at a) (rw sets-all at b)))))
+
+  module _ (ours theirs out₀ : List ℕ) {out out′ : List ℕ} {n n′ : ℕ} (i j : ℕ) (v : Shared ours theirs out₀ out n i j)
+      (hi : i < length ours / itemSize) (hj : j < length theirs / itemSize)
+      (a : Ascends 0 (setsLeft ours i)) (b : Ascends 0 (setsLeft theirs j))
+      (p : Put out n (convertAll pool (meetSets pool (setAt ours i) (setAt theirs j))) out′ n′) where
+    heads : sweep (setsLeft ours i) (setsLeft theirs j) ≡ sweep (setAt ours i ∷ setsLeft ours (i + 1)) (setAt theirs j ∷ setsLeft theirs (j + 1))
+    heads = rw (sets-more ours i hi, sets-more theirs j hj)
+
+    pub shared-next : rk (setAt ours i .end) ≤ rk (setAt theirs j .end) → Shared ours theirs out₀ out′ n′ (i + 1) j
+    shared-next l =
+        left-put v (convertAll pool (meetSets pool (setAt ours i) (setAt theirs j))) _
+        (ap (convertAll pool) (heads ∙ sweep-first (meetSets pool) endsFirst (setAt ours i) (setsLeft ours (i + 1)) (setAt theirs j) (setsLeft theirs (j + 1)) (ends-yes (setAt ours i) (setAt theirs j) l))
+        ∙ convert-append pool (meetSets pool (setAt ours i) (setAt theirs j)) _
+        ∙ rw (← sets-more theirs j hj))
+        p
+
+    pub shared-cut : rk (setAt theirs j .end) < rk (setAt ours i .end) → Shared ours theirs out₀ out′ n′ i (j + 1)
+    shared-cut l =
+        left-put v (convertAll pool (meetSets pool (setAt ours i) (setAt theirs j))) _
+        (ap (convertAll pool) (heads ∙ sweep-second (meetSets pool) endsFirst (setAt ours i) (setsLeft ours (i + 1)) (setAt theirs j) (setsLeft theirs (j + 1)) (ends-no (setAt ours i) (setAt theirs j) l))
+        ∙ convert-append pool (meetSets pool (setAt ours i) (setAt theirs j)) _
+        ∙ rw (← sets-more ours i hi))
+        p
+
+    pub shared-both : rk (setAt ours i .end) ≡ rk (setAt theirs j .end) → Shared ours theirs out₀ out′ n′ (i + 1) (j + 1)
+    shared-both e =
+        left-as (shared-next (omega arith)) _ (ap (convertAll pool) (rw (sets-more theirs j hj)
+        (sweep-skip meeting (setsLeft ours (i + 1)) (setAt theirs j) (setsLeft theirs (j + 1))
+        (above-le Good low high (high (setAt theirs j)) (high (setAt ours i)) (setsLeft ours (i + 1)) (omega arith) (next-ascends ours i hi a))
+        (rw (sets-more theirs j hj) at b))))
+
+  pub shared-end : (ours theirs : List ℕ) {out₀ out : List ℕ} {n : ℕ} (i j : ℕ) → Shared ours theirs out₀ out n i j
+      → (length ours / itemSize ≤ i) ⊎ (length theirs / itemSize ≤ j)
+      → Left (sharedItems pool ours theirs) out₀ 0 out n []
+  unfolding sweepOf convertAll
+  shared-end ours theirs i j v (inl h) = left-as v [] (rw (sets-end ours i h))
+  shared-end ours theirs i j v (inr h) = left-as v [] (rw (sets-end theirs j h, sweep-nil (meetSets pool) endsFirst (setsLeft ours i)))
+
+  -- ---- all three
+
+  pub record Swept (ours theirs both₀ mine₀ yours₀ both mine yours : List ℕ) (n : ManyCounts) (i j : ℕ) (x y : RangeSet) : Type 0 where
+    pub our-size : length ours / itemSize ≤ 2048
+    pub their-size : length theirs / itemSize ≤ 2048
+    pub our-in : i ≤ length ours / itemSize
+    pub their-in : j ≤ length theirs / itemSize
+    pub shared-few : n .«in_both» ≤ i + j
+    pub ours-few : n .ours ≤ i + j
+    pub theirs-few : n .theirs ≤ i + j
+    pub shared : Shared ours theirs both₀ both (n .«in_both») i j
+    pub our-only : Only ours theirs mine₀ mine (n .ours) i j x
+    pub their-only : Only theirs ours yours₀ yours (n .theirs) j i y
+    pub our-ascends : Ascends 0 (setsLeft ours i)
+    pub their-ascends : Ascends 0 (setsLeft theirs j)
+
+  accepted-ascends : (ws : List ℕ) → AcceptedList pool ws → Ascends 0 (setsLeft ws 0)
+  accepted-ascends ws a = rw (sets-all ws) (ranked.order-above pool (size pool) (le-refl (size pool)) (itemsOf ws) (a .sound) (a .in-order))
+
+  pub swept-start : (ours theirs both mine yours : List ℕ) (n : ManyCounts) {x y : RangeSet} → AcceptedList pool ours → AcceptedList pool theirs
+      → n .«in_both» ≡ 0 → n .ours ≡ 0 → n .theirs ≡ 0 → x ≡ setAt ours 0 → y ≡ setAt theirs 0
+      → Swept ours theirs both mine yours both mine yours n 0 0 x y
+  swept-start ours theirs both mine yours n a b p q r f g = record {
+    our-size = a .few;
+    their-size = b .few;
+    our-in = omega arith;
+    their-in = omega arith;
+    shared-few = omega arith;
+    ours-few = omega arith;
+    theirs-few = omega arith;
+    shared = rw p (shared-start ours theirs both (accepted-ascends ours a) (accepted-ascends theirs b));
+    our-only = rw (q, f) (only-start ours theirs mine (accepted-ascends ours a) (accepted-ascends theirs b));
+    their-only = rw (r, g) (only-start theirs ours yours (accepted-ascends theirs b) (accepted-ascends ours a));
+    our-ascends = accepted-ascends ours a;
+    their-ascends = accepted-ascends theirs b;
+  }
+
+  module _ (ours theirs both₀ mine₀ yours₀ both mine yours : List ℕ) (n : ManyCounts) (i j : ℕ) (x y : RangeSet)
+      (v : Swept ours theirs both₀ mine₀ yours₀ both mine yours n i j x y)
+      (hi : i < length ours / itemSize) (hj : j < length theirs / itemSize)
+      (a b : RangeSet) (at-a : a ≡ setAt ours i) (at-b : b ≡ setAt theirs j) where
+    pub swept-turn : Turn pool a b x y n
+    swept-turn = record {
+      our-upright = rw at-a (whole-upright pool (size pool) (le-refl (size pool)) (setAt ours i) ((rw (sets-more ours i hi) at (v .our-ascends)) .1));
+      their-upright = rw at-b (whole-upright pool (size pool) (le-refl (size pool)) (setAt theirs j) ((rw (sets-more theirs j hj) at (v .their-ascends)) .1));
+      our-end = v .our-only .same-end ∙ rw at-a;
+      their-end = v .their-only .same-end ∙ rw at-b;
+      shared-few = omega (arith, v);
+      ours-few = omega (arith, v);
+      theirs-few = omega (arith, v);
+    }
+
+    module _ (both′ mine′ yours′ : List ℕ) (n′ : ManyCounts)
+        (p : Put both (n .«in_both») (convertAll pool (meetSets pool a b)) both′ (n′ .«in_both»))
+        (q : Put mine (n .ours) (convertAll pool (leftOver pool x b)) mine′ (n′ .ours))
+        (r : Put yours (n .theirs) (convertAll pool (leftOver pool y a)) yours′ (n′ .theirs))
+        (x′ y′ : RangeSet) where
+      p′ : Put both (n .«in_both») (convertAll pool (meetSets pool (setAt ours i) (setAt theirs j))) both′ (n′ .«in_both»)
+      p′ = rw (← at-a, ← at-b) p
+
+      q′ : Put mine (n .ours) (convertAll pool (leftOver pool x (setAt theirs j))) mine′ (n′ .ours)
+      q′ = rw (← at-b) q
+
+      r′ : Put yours (n .theirs) (convertAll pool (leftOver pool y (setAt ours i))) yours′ (n′ .theirs)
+      r′ = rw (← at-a) r
+
+      -- ours ends first
+      pub swept-less : rk (a .end) < rk (b .end) → x′ ≡ setAt ours (i + 1) → y′ ≡ rightSet pool y a
+          → Swept ours theirs both₀ mine₀ yours₀ both′ mine′ yours′ n′ (i + 1) j x′ y′
+      swept-less l f g =
+          let l′ : rk (setAt ours i .end) < rk (setAt theirs j .end) = rw (← at-a, ← at-b) l in
+          record {
+            our-size = v .our-size;
+            their-size = v .their-size;
+            our-in = omega arith;
+            their-in = v .their-in;
+            shared-few = omega (arith, v .shared-few, p .count, meet-few pool a b);
+            ours-few = omega (arith, v .ours-few, q .count, left-few pool x b);
+            theirs-few = omega (arith, v .theirs-few, r .count, left-few pool y a);
+            shared = shared-next ours theirs both₀ i j (v .shared) hi hj (v .our-ascends) (v .their-ascends) p′ (omega arith);
+            our-only = rw f (only-next ours theirs mine₀ i j x (v .our-only) hi hj (v .our-ascends) (v .their-ascends) q′ (omega arith));
+            their-only = rw (g, at-a) (only-cut theirs ours yours₀ j i y (v .their-only) hj hi (v .their-ascends) (v .our-ascends) r′ l′);
+            our-ascends = next-ascends-0 ours i hi (v .our-ascends);
+            their-ascends = v .their-ascends;
+          }
+
+      -- theirs ends first
+      pub swept-greater : rk (b .end) < rk (a .end) → x′ ≡ rightSet pool x b → y′ ≡ setAt theirs (j + 1)
+          → Swept ours theirs both₀ mine₀ yours₀ both′ mine′ yours′ n′ i (j + 1) x′ y′
+      swept-greater l f g =
+          let l′ : rk (setAt theirs j .end) < rk (setAt ours i .end) = rw (← at-a, ← at-b) l in
+          record {
+            our-size = v .our-size;
+            their-size = v .their-size;
+            our-in = v .our-in;
+            their-in = omega arith;
+            shared-few = omega (arith, v .shared-few, p .count, meet-few pool a b);
+            ours-few = omega (arith, v .ours-few, q .count, left-few pool x b);
+            theirs-few = omega (arith, v .theirs-few, r .count, left-few pool y a);
+            shared = shared-cut ours theirs both₀ i j (v .shared) hi hj (v .our-ascends) (v .their-ascends) p′ l′;
+            our-only = rw (f, at-b) (only-cut ours theirs mine₀ i j x (v .our-only) hi hj (v .our-ascends) (v .their-ascends) q′ l′);
+            their-only = rw g (only-next theirs ours yours₀ j i y (v .their-only) hj hi (v .their-ascends) (v .our-ascends) r′ (omega arith));
+            our-ascends = v .our-ascends;
+            their-ascends = next-ascends-0 theirs j hj (v .their-ascends);
+          }
+
+      -- both end together
+      pub swept-equal : rk (a .end) ≡ rk (b .end) → x′ ≡ setAt ours (i + 1) → y′ ≡ setAt theirs (j + 1)
+          → Swept ours theirs both₀ mine₀ yours₀ both′ mine′ yours′ n′ (i + 1) (j + 1) x′ y′
+      swept-equal e f g =
+          let e′ : rk (setAt ours i .end) ≡ rk (setAt theirs j .end) = rw (← at-a, ← at-b) e in
+          record {
+            our-size = v .our-size;
+            their-size = v .their-size;
+            our-in = omega arith;
+            their-in = omega arith;
+            shared-few = omega (arith, v .shared-few, p .count, meet-few pool a b);
+            ours-few = omega (arith, v .ours-few, q .count, left-few pool x b);
+            theirs-few = omega (arith, v .theirs-few, r .count, left-few pool y a);
+            shared = shared-both ours theirs both₀ i j (v .shared) hi hj (v .our-ascends) (v .their-ascends) p′ e′;
+            our-only = rw f (only-both ours theirs mine₀ i j x (v .our-only) hi hj (v .our-ascends) (v .their-ascends) q′ e′);
+            their-only = rw g (only-both theirs ours yours₀ j i y (v .their-only) hj hi (v .their-ascends) (v .our-ascends) r′ (sym e′));
+            our-ascends = next-ascends-0 ours i hi (v .our-ascends);
+            their-ascends = next-ascends-0 theirs j hj (v .their-ascends);
+          }

@@ -1,0 +1,180 @@
+-- `intersect_many::sweep` meets its contract: the invariant: at the two indexes each of the three lists has left to write what the pass
+-- over what is left of both lists gives
+-- (`Swept`). The measure is how many items are left in both lists. Assumes nothing.
+use Prim.Native.Nat.{ℕ, _+_, _-_, _/_, _≤_, _<_}
+use mathlib.Core.Path.{_≡_, refl, sym, _∙_}
+use mathlib.Core.Bool.{Bool, true, false, _&&_, false≢true}
+use mathlib.Core.Logic.{_⊎_, inl, inr}
+use native.Mathlib.Omega.{arith}
+use lib.ListN.{length}
+use lib.Dec.{ltb}
+use borrow.Author.Needs.{needs}
+use borrow.Author.Tests.{ltb-true, ltb-false}
+use Rattle.query_item.specs.Items.{itemSize}
+use Rattle.item_check.proofs.Laws.{accepted-list}
+use Rattle.intersect_many.proofs.Written.{left-done, left-finish}
+use Rattle.intersect_many.proofs.Swept.{Swept, ranks-say, only-end, shared-end, swept-start, swept-turn, swept-less, swept-greater, swept-equal}
+use Rattle.intersect_many.proofs.sweep.Statement.{statement}
+use Rattle.intersect_many.proofs.sweep.Tie as tie
+
+inside : (i j m n : ℕ) → ltb i m && ltb j n ≡ true → (i < m) × (j < n)
+inside i j m n e = go (ltb i m) (ltb j n) refl refl e
+  where
+    go : (s t : Bool) → ltb i m ≡ s → ltb j n ≡ t → s && t ≡ true → (i < m) × (j < n)
+    go true t p q e = (ltb-true i m p, ltb-true j n (q ∙ e))
+    go false t p q e = absurd (false≢true e)
+
+over : (i j m n : ℕ) → ltb i m && ltb j n ≡ false → (m ≤ i) ⊎ (n ≤ j)
+over i j m n e = go (ltb i m) (ltb j n) refl refl e
+  where
+    go : (s t : Bool) → ltb i m ≡ s → ltb j n ≡ t → s && t ≡ false → (m ≤ i) ⊎ (n ≤ j)
+    go true t p q e = inr (ltb-false j n (q ∙ e))
+    go false t p q e = inl (ltb-false i m p)
+
+other : {A B : Type 0} → A ⊎ B → B ⊎ A
+other (inl a) = inr a
+other (inr b) = inl b
+
+abbrev Inv-loop : tie.InvT-loop
+Inv-loop pool ours theirs both₀ mine₀ yours₀ our-count their-count n₀ i₀ j₀ x₀ y₀ both mine yours n i j x y =
+    Swept pool ours theirs both₀ mine₀ yours₀ both mine yours n i j x y
+
+abbrev μ-loop : tie.MeasureT-loop
+μ-loop pool ours theirs both₀ mine₀ yours₀ our-count their-count n₀ i₀ j₀ x₀ y₀ both mine yours n i j x y =
+    (our-count - i) + (their-count - j)
+
+-- in a turn both indexes are inside
+test : (c : tie.In-loop Inv-loop μ-loop)
+    → (c .before .loop .i < length (c .before .before .before .before .before .before .before .before .before .before .args .ours .now) / itemSize) × (c .before .loop .j < length (c .before .before .before .before .before .before .before .before .before .before .args .theirs .now) / itemSize)
+test c = inside (c .before .loop .i) (c .before .loop .j) _ _ (c .loop-test .taken)
+
+loop-holds : tie.Need-loop-holds Inv-loop μ-loop
+loop-holds c =
+    let start = c .before .before .before .before .before .before .before .before in
+    swept-start (start .args .pool .now) (start .args .ours .now) (start .args .theirs .now) _ _ _ _
+    (accepted-list (start .args .pool .now) 0 (start .args .ours .now) .0 (start .pre .0))
+    (accepted-list (start .args .pool .now) 1 (start .args .theirs .now) .0 (start .pre .1))
+    refl refl refl (c .before .set-at .ensures) (c .set-at2 .ensures)
+
+emit-requires : tie.Need-emit-requires Inv-loop μ-loop
+emit-requires c κs =
+    let turn = c .before .before .before .before in
+    swept-turn _ _ _ _ _ _ _ _ _ _ _ _ _ _ (turn .before .before .loop .inv) (test (turn .before) .0) (test (turn .before) .1) _ _ (turn .set-at3 .ensures) (c .before .before .before .set-at4 .ensures)
+
+add-i : tie.Need-add-i Inv-loop μ-loop
+add-i c = omega (arith, test (c .before .before .before .before .before .before .before .before .before .before .before .before .before .before .before .before))
+
+loop-less : tie.Need-loop-less Inv-loop μ-loop
+loop-less c = omega (arith, test (c .before .before .before .before .before .before .before .before .before .before .before .before .before .before .before .before .before))
+
+loop-again : tie.Need-loop-again Inv-loop μ-loop
+loop-again c =
+    let emit = c .before .before .before .before .before .before .before .before .before .before .before .emit in
+    let turn = c .before .before .before .before .before .before .before .before .before .before .before .before .before .before .before .before in
+    let at = turn .before .before in
+    let both = test (turn .before) in
+    let said = c .before .before .before .before .compare-in .ensures in
+    swept-less _ _ _ _ _ _ _ _ _ _ _ _ _ _ (at .loop .inv) (both .0) (both .1) _ _ (turn .set-at3 .ensures) (c .before .before .before .before .before .before .before .before .before .before .before .before .before .before .before .set-at4 .ensures) _ _ _ _
+    (emit .ensures .0) (emit .ensures .1 .0) (emit .ensures .1 .1) _ _
+    (ranks-say (at .before .before .before .before .before .before .before .before .before .args .pool .now) (turn .set-at3 .result .end) (c .before .before .before .before .before .before .before .before .before .before .before .before .before .before .before .set-at4 .result .end) (sym said ∙ c .before .before .enum-told .given .1))
+    (c .set-at5 .ensures) (c .before .right-set .ensures)
+
+add-j : tie.Need-add-j Inv-loop μ-loop
+add-j c = omega (arith, test (c .before .before .before .before .before .before .before .before .before .before .before .before .before .before .before .before))
+
+loop-less-2 : tie.Need-loop-less-2 Inv-loop μ-loop
+loop-less-2 c = omega (arith, test (c .before .before .before .before .before .before .before .before .before .before .before .before .before .before .before .before .before))
+
+loop-again-2 : tie.Need-loop-again-2 Inv-loop μ-loop
+loop-again-2 c =
+    let emit = c .before .before .before .before .before .before .before .before .before .before .before .emit in
+    let turn = c .before .before .before .before .before .before .before .before .before .before .before .before .before .before .before .before in
+    let at = turn .before .before in
+    let both = test (turn .before) in
+    let said = c .before .before .before .before .compare-in .ensures in
+    swept-greater _ _ _ _ _ _ _ _ _ _ _ _ _ _ (at .loop .inv) (both .0) (both .1) _ _ (turn .set-at3 .ensures) (c .before .before .before .before .before .before .before .before .before .before .before .before .before .before .before .set-at4 .ensures) _ _ _ _
+    (emit .ensures .0) (emit .ensures .1 .0) (emit .ensures .1 .1) _ _
+    (ranks-say (at .before .before .before .before .before .before .before .before .before .args .pool .now) (turn .set-at3 .result .end) (c .before .before .before .before .before .before .before .before .before .before .before .before .before .before .before .set-at4 .result .end) (sym said ∙ c .before .before .enum-told2 .given .1))
+    (c .before .right-set2 .ensures) (c .set-at6 .ensures)
+
+add-i-2 : tie.Need-add-i-2 Inv-loop μ-loop
+add-i-2 c = omega (arith, test (c .before .before .before .before .before .before .before .before .before .before .before .before .before .before .before))
+
+add-j-2 : tie.Need-add-j-2 Inv-loop μ-loop
+add-j-2 c = omega (arith, test (c .before .before .before .before .before .before .before .before .before .before .before .before .before .before .before))
+
+loop-less-3 : tie.Need-loop-less-3 Inv-loop μ-loop
+loop-less-3 c = omega (arith, test (c .before .before .before .before .before .before .before .before .before .before .before .before .before .before .before .before .before))
+
+loop-again-3 : tie.Need-loop-again-3 Inv-loop μ-loop
+loop-again-3 c =
+    let emit = c .before .before .before .before .before .before .before .before .before .before .before .emit in
+    let turn = c .before .before .before .before .before .before .before .before .before .before .before .before .before .before .before .before in
+    let at = turn .before .before in
+    let both = test (turn .before) in
+    let said = c .before .before .before .before .compare-in .ensures in
+    swept-equal _ _ _ _ _ _ _ _ _ _ _ _ _ _ (at .loop .inv) (both .0) (both .1) _ _ (turn .set-at3 .ensures) (c .before .before .before .before .before .before .before .before .before .before .before .before .before .before .before .set-at4 .ensures) _ _ _ _
+    (emit .ensures .0) (emit .ensures .1 .0) (emit .ensures .1 .1) _ _
+    (ranks-say (at .before .before .before .before .before .before .before .before .before .args .pool .now) (turn .set-at3 .result .end) (c .before .before .before .before .before .before .before .before .before .before .before .before .before .before .before .set-at4 .result .end) (sym said ∙ c .before .before .enum-told3 .given .1))
+    (c .before .set-at7 .ensures) (c .set-at8 .ensures)
+
+put-rest-requires : tie.Need-put-rest-requires Inv-loop μ-loop
+put-rest-requires c κs = omega (arith, c .before .before .loop .inv)
+
+put-rest-requires-2 : tie.Need-put-rest-requires-2 Inv-loop μ-loop
+put-rest-requires-2 c κs = omega (arith, c .before .before .before .before .before .before .loop .inv)
+
+same-length : tie.Need-same-length Inv-loop μ-loop
+same-length c = c .before .before .before .before .before .before .before .before .before .loop .inv .shared .same
+
+returns : tie.Need-returns Inv-loop μ-loop
+returns c =
+    let at = c .before .before .before .before .before .before .before .before .before in
+    let start = at .before .before .before .before .before .before .before .before .before in
+    let v = at .loop .inv in
+    let ended = over (at .loop .i) (at .loop .j) _ _ (c .before .before .before .before .before .before .before .before .loop-test .left) in (
+      left-done (shared-end (start .args .pool .now) (start .args .ours .now) (start .args .theirs .now) (at .loop .i) (at .loop .j) (v .shared) ended) refl,
+      (
+        left-finish (only-end (start .args .pool .now) (at .loop .i) (at .loop .j) (at .loop .x) (v .our-only) ended) (c .before .before .before .before .before .before .put-rest .ensures),
+        left-finish (only-end (start .args .pool .now) (at .loop .j) (at .loop .i) (at .loop .y) (v .their-only) (other ended)) (c .before .before .put-rest2 .ensures),
+      ),
+    )
+
+pub sweep-spec : {M : Type 1} → statement M
+sweep-spec =
+    tie.close
+    (tie.spec
+    Inv-loop
+    μ-loop
+    (λ c κs. search needs)
+    (λ c κs. search needs)
+    loop-holds
+    (λ c κs. search needs)
+    (λ c κs. search needs)
+    emit-requires
+    (λ c κs. search needs)
+    (λ c. search needs)
+    (λ c κs. search needs)
+    add-i
+    (λ c κs. search needs)
+    loop-less
+    loop-again
+    (λ c. search needs)
+    (λ c κs. search needs)
+    add-j
+    (λ c κs. search needs)
+    loop-less-2
+    loop-again-2
+    (λ c. search needs)
+    add-i-2
+    add-j-2
+    (λ c κs. search needs)
+    (λ c κs. search needs)
+    loop-less-3
+    loop-again-3
+    put-rest-requires
+    put-rest-requires-2
+    same-length
+    (λ c. search needs)
+    (λ c. search needs)
+    returns)

@@ -1,0 +1,46 @@
+-- What demand 3 speaks of: the lists as words, the keys that a list holds, and items that are the same by kind and key bytes.
+-- Definitions only. Assumes nothing.
+use Prim.Native.Nat.{ℕ, _≤_}
+use mathlib.Core.Path.{_≡_}
+use mathlib.Core.Bool.{Bool, false, _||_}
+use mathlib.Core.List.{List, [], _∷_, map}
+use lib.ListN.{length}
+use Rattle.query_item.specs.declared.ItemWords.{ItemWords}
+use Rattle.query_item.specs.declared.QueryItem.{QueryItem}
+use Rattle.query_item.specs.Items.{bytesOf, holds, queryItem}
+use Rattle.item_check.specs.Checks.{accepted, mostItems, itemsOf, checkVerdict}
+use Rattle.intersect_many.specs.Lists.{sharedItems, onlyItems, wordsAll}
+
+-- A shared with B, and A without B, as the words that are written
+abbrev pub sharedWords : List ℕ → List ℕ → List ℕ → List ℕ
+sharedWords pool A B = wordsAll (sharedItems pool A B)
+
+abbrev pub withoutWords : List ℕ → List ℕ → List ℕ → List ℕ
+withoutWords pool A B = wordsAll (onlyItems pool A B)
+
+-- a list is accepted: the check of a list has nothing to refuse. (The side is only told in a refusal)
+abbrev pub Accepted : List ℕ → List ℕ → Type 0
+Accepted pool ws = checkVerdict pool ws 0 ≡ accepted
+
+-- a result fits the limit of a list
+abbrev pub Fits : List QueryItem → Type 0
+Fits Q = length Q ≤ mostItems
+
+-- a list holds a key when one of its items does
+abbrev pub anyHolds : List ℕ → List ItemWords → List ℕ → Bool
+anyHolds pool [] k = false
+anyHolds pool (it ∷ its) k = holds pool (queryItem it) k || anyHolds pool its k
+
+abbrev pub listHolds : List ℕ → List ℕ → List ℕ → Bool
+listHolds pool ws k = anyHolds pool (itemsOf ws) k
+
+-- an item's kind, wrapper and key bytes
+abbrev pub Shown : Type 0
+Shown = ℕ × ℕ × List ℕ × List ℕ
+
+abbrev pub shown : List ℕ → ItemWords → Shown
+shown pool it = (it .code, it .wrapper, bytesOf pool (it .start), bytesOf pool (it .end))
+
+-- the same list, item by item
+abbrev pub SameItems : List ℕ → List ℕ → List ℕ → Type 0
+SameItems pool A B = map (shown pool) (itemsOf A) ≡ map (shown pool) (itemsOf B)

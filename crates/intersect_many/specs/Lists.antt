@@ -1,0 +1,89 @@
+-- Module 4 of document 01: the three lists of two lists of items. Definitions only. Assumes nothing.
+use Prim.Native.Nat.{ℕ, _/_}
+use mathlib.Core.List.{List, [], _∷_, _++_, map}
+use mathlib.Core.Bool.{Bool, cond, _||_}
+use lib.ListN.{length, drop}
+use lib.Dec.{ltb}
+use Rattle.intervals.specs.Lists.{sharedOf, withoutOf}
+use Rattle.query_item.specs.declared.QueryItem.{QueryItem}
+use Rattle.query_item.specs.declared.RangeSet.{RangeSet}
+use Rattle.query_item.specs.Items.{itemSize, wordsOf, flat}
+use Rattle.query_item.specs.Boundaries.{rangeOf, toQueryItem}
+use Rattle.item_check.specs.Checks.{Answer, answered, refused, Verdict, accepted, andThen, refusedAs, poolVerdict, listVerdict, itemsOf}
+use Rattle.intersect_many.specs.declared.ManyCounts.{ManyCounts}
+use Rattle.intersect_many.specs.declared.ManyAnswer.{ManyAnswer}
+use Rattle.intersect_many.specs.declared.ManyAnswer.the-variants as many
+use Rattle.intersect.specs.Pair.{meetSets, leftOver, rightOver, asItems}
+
+-- the ranges of a list's items, in order; wrappers are read through
+abbrev pub setsOf : List ℕ → List RangeSet
+setsOf ws = map rangeOf (itemsOf ws)
+
+-- 01 m4: all output is converted
+unfoldable pub convertAll : List ℕ → List RangeSet → List QueryItem
+convertAll pool [] = []
+convertAll pool (s ∷ S) = asItems (toQueryItem pool s) ++ convertAll pool S
+
+-- 01 m4: shared: over ours in order, then theirs in order, each pair's shared item
+unfoldable pub sharedItems : List ℕ → List ℕ → List ℕ → List QueryItem
+sharedItems pool ours theirs = convertAll pool (sharedOf (meetSets pool) (setsOf ours) (setsOf theirs))
+
+-- one of ours with one of theirs removed: the pair's leftovers of ours
+abbrev pub cutSets : List ℕ → RangeSet → RangeSet → List RangeSet
+cutSets pool a b = leftOver pool a b ++ rightOver pool a b
+
+-- 01 m4: ours-only: each of our items with all of theirs removed, pieces ascending; theirs-only: with sides exchanged.
+-- Reading A26: an item that is cut several times is cut as boundaries, and converted once at the end
+unfoldable pub onlyItems : List ℕ → List ℕ → List ℕ → List QueryItem
+onlyItems pool ours theirs = convertAll pool (withoutOf (cutSets pool) (setsOf ours) (setsOf theirs))
+
+-- ---- as words
+
+unfoldable pub wordsAll : List QueryItem → List ℕ
+wordsAll [] = []
+wordsAll (q ∷ Q) = flat (wordsOf 0 q) ++ wordsAll Q
+
+-- 01 m4: words past the written items keep their bytes
+abbrev pub laidOver : List ℕ → List QueryItem → List ℕ
+laidOver out Q = wordsAll Q ++ drop (length (wordsAll Q)) out
+
+-- ---- the call: the pool, ours entirely, theirs entirely, then the room of the three lists, whole items
+
+abbrev pub manyOf : ManyAnswer → Answer ManyCounts
+manyOf (many.Counts c) = answered c
+manyOf (many.Refused r) = refusedAs r
+
+abbrev pub bothVerdict : List ℕ → List ℕ → List ℕ → Verdict
+bothVerdict pool ours theirs = andThen (listVerdict pool ours 0) (listVerdict pool theirs 1)
+
+abbrev pub listsVerdict : List ℕ → List ℕ → List ℕ → Verdict
+listsVerdict pool ours theirs = andThen (poolVerdict pool) (bothVerdict pool ours theirs)
+
+-- more items than an output has room for
+abbrev pub passes : ℕ → List ℕ → Bool
+passes count out = ltb (length out / itemSize) count
+
+abbrev pub roomVerdict : ManyCounts → List ℕ → List ℕ → List ℕ → Verdict
+roomVerdict c shared ours theirs =
+    cond (passes (c .«in_both») shared || passes (c .ours) ours || passes (c .theirs) theirs) (refused 6 0 0) accepted
+
+abbrev pub countsOf : List ℕ → List ℕ → List ℕ → ManyCounts
+countsOf pool ours theirs =
+    record {
+      «in_both» = length (sharedItems pool ours theirs);
+      ours = length (onlyItems pool ours theirs);
+      theirs = length (onlyItems pool theirs ours);
+    }
+
+abbrev pub roomAnswer : List ℕ → List ℕ → List ℕ → List ℕ → List ℕ → List ℕ → Answer ManyCounts
+roomAnswer pool ours theirs outShared outOurs outTheirs =
+    andThen (roomVerdict (countsOf pool ours theirs) outShared outOurs outTheirs) (answered (countsOf pool ours theirs))
+
+abbrev pub manyAnswer : List ℕ → List ℕ → List ℕ → List ℕ → List ℕ → List ℕ → Answer ManyCounts
+manyAnswer pool ours theirs outShared outOurs outTheirs =
+    andThen (listsVerdict pool ours theirs) (roomAnswer pool ours theirs outShared outOurs outTheirs)
+
+-- an output afterwards: items laid over it where the call answers; a refusal leaves it as it was
+abbrev pub written : {A : Type 0} → Answer A → List QueryItem → List ℕ → List ℕ
+written (answered c) Q out = laidOver out Q
+written (refused n s i) Q out = out

@@ -1,0 +1,47 @@
+-- What the one pass over both lists goes by. No promise of a public call cites this. Assumes nothing.
+use Prim.Native.Nat.{ℕ, suc, _+_, _-_, _/_, _≤_}
+use mathlib.Core.Path.{_≡_}
+use mathlib.Core.List.{List, [], _∷_, map}
+use mathlib.Core.Bool.{true, cond}
+use Rattle.query_item.specs.declared.QueryItem.{QueryItem}
+use Rattle.query_item.specs.declared.RangeSet.{RangeSet}
+use lib.ListN.{length}
+use Rattle.query_item.specs.Items.{itemSize, itemsFrom, wordsOf, withItem}
+use Rattle.query_item.specs.Boundaries.{invertOf, fromTo, rangeOf, upright}
+use Rattle.intersect_many.specs.declared.ManyCounts.{ManyCounts}
+use Rattle.intersect.specs.Pair.{before}
+
+-- items written one after another from index n on, as far as there is room
+unfoldable pub putAll : List ℕ → ℕ → List QueryItem → List ℕ
+putAll out n [] = out
+putAll out n (q ∷ Q) = putAll (withItem out n (wordsOf 0 q)) (suc n) Q
+
+-- what of a stands past b, where b ends first
+unfoldable pub rightSet : List ℕ → RangeSet → RangeSet → RangeSet
+rightSet pool a b = cond (before pool b a) a (fromTo (invertOf (b .end) true) (a .end))
+
+-- the ranges of a list's items from an index on, and the same with the first exchanged for what is left of it
+abbrev pub setsLeft : List ℕ → ℕ → List RangeSet
+setsLeft ws i = map rangeOf (itemsFrom ws i (length ws / itemSize - i))
+
+abbrev pub withHead : RangeSet → List RangeSet → List RangeSet
+withHead s [] = []
+withHead s (a ∷ A) = s ∷ A
+
+abbrev pub restLeft : List ℕ → ℕ → RangeSet → List RangeSet
+restLeft ws i s = withHead s (setsLeft ws i)
+
+-- items written from a count on: the next count, and the words
+pub record Put (out : List ℕ) (n : ℕ) (Q : List QueryItem) (out′ : List ℕ) (n′ : ℕ) : Type 0 where
+  pub count : n′ ≡ n + length Q
+  pub words : out′ ≡ putAll out n Q
+
+-- what a turn may count on: two upright ranges, what is left of each with its end, and counts that are not near the limit of a number
+pub record Turn (pool : List ℕ) (a b x y : RangeSet) (n : ManyCounts) : Type 0 where
+  pub our-upright : upright pool a ≡ true
+  pub their-upright : upright pool b ≡ true
+  pub our-end : x .end ≡ a .end
+  pub their-end : y .end ≡ b .end
+  pub shared-few : n .«in_both» ≤ 4096
+  pub ours-few : n .ours ≤ 4096
+  pub theirs-few : n .theirs ≤ 4096

@@ -1,0 +1,274 @@
+// Module 4 of document 01: the three lists of two lists of items. The crate `intersect` has the pair.
+// Definitions: specs/Lists.antt (specs/Sweep.antt is what the pass goes by). Laws: proofs/Demands.antt, which speak by specs/Demand.antt.
+//
+// One pass over both lists with two indexes. What is left of our item and of theirs, at the indexes, is kept beside them.
+ghost use mathlib.Core.Path.{_≡_};
+ghost use mathlib.Core.Bool.{true};
+ghost use Prim.Native.Nat.{_+_, _/_, _≤_};
+ghost use lib.ListN.{length};
+ghost use Rattle.query_item.specs.Items.{itemSize};
+ghost use Rattle.query_item.specs.Boundaries.{upright};
+ghost use Rattle.item_check.specs.Checks.{verdictOf, accepted, listVerdict};
+ghost use Rattle.intersect.specs.Pair.{before, meetSets, leftOver, asItems};
+ghost use Rattle.intersect_many.specs.Lists.{convertAll, sharedItems, onlyItems, manyOf, bothVerdict, listsVerdict, passes, countsOf, roomAnswer, manyAnswer, written};
+ghost use Rattle.intersect_many.specs.Sweep.{rightSet, restLeft, Put, Turn};
+use intersect::pair::is_before;
+use intersect::pair::item_of;
+use intersect::pair::left_by;
+use intersect::pair::meet_by;
+use item_check::Checked;
+use item_check::Refusal;
+use item_check::check_pool;
+use item_check::check_words;
+use item_check::set_at;
+use key_order::Ordering;
+use query_item::MaybeItem;
+use query_item::RangeSet;
+use query_item::boundary::compare_in;
+use query_item::boundary::invert_in;
+use query_item::item::ITEM_SIZE;
+use query_item::item::words_of;
+use query_item::item::write_item;
+
+// How many items the three lists have.
+pub struct ManyCounts {
+    pub in_both: usize,
+    pub ours: usize,
+    pub theirs: usize,
+}
+
+// What the call on two lists answers.
+pub enum ManyAnswer {
+    Counts(ManyCounts),
+    Refused(Refusal),
+}
+
+// What two lists share, what ours keeps without theirs, and what theirs keeps without ours, written to the front of three lists, with their
+// counts. No more than one item a turn for each, and each turn moves an index: at most as many items as both lists have.
+pub fn intersect_many_ordered(
+    pool: &[u8],
+    ours: &[u32],
+    theirs: &[u32],
+    both: &mut [u32],
+    mine: &mut [u32],
+    yours: &mut [u32],
+) -> ManyAnswer
+    ensures { λ r. ⌜ manyOf r ≡ manyAnswer (now (pool .entry)) (now (ours .entry)) (now (theirs .entry)) (now (both .entry)) (now (mine .entry)) (now (yours .entry)) ⌝ }
+    ensures { λ _. ⌜ now (both .exit) ≡ written (manyAnswer (now (pool .entry)) (now (ours .entry)) (now (theirs .entry)) (now (both .entry)) (now (mine .entry)) (now (yours .entry))) (sharedItems (now (pool .entry)) (now (ours .entry)) (now (theirs .entry))) (now (both .entry)) ⌝ }
+    ensures { λ _. ⌜ now (mine .exit) ≡ written (manyAnswer (now (pool .entry)) (now (ours .entry)) (now (theirs .entry)) (now (both .entry)) (now (mine .entry)) (now (yours .entry))) (onlyItems (now (pool .entry)) (now (ours .entry)) (now (theirs .entry))) (now (mine .entry)) ⌝ }
+    ensures { λ _. ⌜ now (yours .exit) ≡ written (manyAnswer (now (pool .entry)) (now (ours .entry)) (now (theirs .entry)) (now (both .entry)) (now (mine .entry)) (now (yours .entry))) (onlyItems (now (pool .entry)) (now (theirs .entry)) (now (ours .entry))) (now (yours .entry)) ⌝ }
+{
+    match check_lists(pool, ours, theirs) {
+        Checked::Refused(r) => ManyAnswer::Refused(r),
+        Checked::Accepted => write_lists(pool, ours, theirs, both, mine, yours),
+    }
+}
+
+// Writes an item, if there is one, at index n, and says where the next one goes.
+fn put(out: &mut [u32], n: usize, item: MaybeItem) -> usize
+    requires { ⌜ n ≤ 4096 ⌝ }
+    ensures { λ r. ⌜ Put (now (out .entry)) n (asItems item) (now (out .exit)) r ⌝ }
+{
+    match item {
+        MaybeItem::NoItem => n,
+        MaybeItem::Item(q) => {
+            write_item(out, n, words_of(0, q));
+            n + 1
+        }
+    }
+}
+
+// What of a stands past b, where b ends first.
+fn right_set(pool: &[u8], a: RangeSet, b: RangeSet) -> RangeSet
+    ensures { λ r. ⌜ r ≡ rightSet (now (pool .entry)) a b ⌝ }
+{
+    if is_before(pool, b, a) {
+        return a;
+    }
+    let from = b.end;
+    let end = a.end;
+    RangeSet {
+        start: invert_in(from, true),
+        end,
+    }
+}
+
+// What two ranges share, as an item.
+fn meet_item(pool: &[u8], first: bool, second: bool, a: RangeSet, b: RangeSet) -> MaybeItem
+    requires { ⌜ (first ≡ before (now pool) a b) × (second ≡ before (now pool) b a) ⌝ }
+    ensures { λ r. ⌜ asItems r ≡ convertAll (now (pool .entry)) (meetSets (now (pool .entry)) a b) ⌝ }
+{
+    item_of(pool, meet_by(pool, first | second, a, b))
+}
+
+// What of a stands left of b, as an item.
+fn left_item(pool: &[u8], first: bool, a: RangeSet, b: RangeSet) -> MaybeItem
+    requires { ⌜ (first ≡ before (now pool) a b) × (upright (now pool) b ≡ true) ⌝ }
+    ensures { λ r. ⌜ asItems r ≡ convertAll (now (pool .entry)) (leftOver (now (pool .entry)) a b) ⌝ }
+{
+    item_of(pool, left_by(pool, first, a, b))
+}
+
+// A turn's items: what a and b share, and what of each, of which x and y are left, stands left of the other.
+fn emit(
+    pool: &[u8],
+    a: RangeSet,
+    b: RangeSet,
+    x: RangeSet,
+    y: RangeSet,
+    both: &mut [u32],
+    ours: &mut [u32],
+    theirs: &mut [u32],
+    n: ManyCounts,
+) -> ManyCounts
+    requires { ⌜ Turn (now pool) a b x y n ⌝ }
+    ensures { λ r. ⌜ Put (now (both .entry)) (n .«in_both») (convertAll (now (pool .entry)) (meetSets (now (pool .entry)) a b)) (now (both .exit)) (r .«in_both») ⌝ }
+    ensures { λ r. ⌜ Put (now (ours .entry)) (n .ours) (convertAll (now (pool .entry)) (leftOver (now (pool .entry)) x b)) (now (ours .exit)) (r .ours) ⌝ }
+    ensures { λ r. ⌜ Put (now (theirs .entry)) (n .theirs) (convertAll (now (pool .entry)) (leftOver (now (pool .entry)) y a)) (now (theirs .exit)) (r .theirs) ⌝ }
+{
+    let first = is_before(pool, a, b);
+    let second = is_before(pool, b, a);
+    ManyCounts {
+        in_both: put(both, n.in_both, meet_item(pool, first, second, a, b)),
+        ours: put(ours, n.ours, left_item(pool, first, x, b)),
+        theirs: put(theirs, n.theirs, left_item(pool, second, y, a)),
+    }
+}
+
+// What is left of a list from an index on, of whose item there x is left, once the other list has ended.
+fn put_rest(pool: &[u8], words: &[u32], i: usize, x: RangeSet, out: &mut [u32], n: usize) -> usize
+    requires { ⌜ n + length (now words) / itemSize ≤ 4096 + i ⌝ }
+    ensures { λ r. ⌜ Put (now (out .entry)) n (convertAll (now (pool .entry)) (restLeft (now (words .entry)) i x)) (now (out .exit)) r ⌝ }
+{
+    let count = words.len() / ITEM_SIZE;
+    if count <= i {
+        return n;
+    }
+    let mut m = put(out, n, x.to_query_item(pool));
+    let mut k = i + 1;
+    while k < count {
+        m = put(out, m, set_at(words, k).to_query_item(pool));
+        k += 1;
+    }
+    m
+}
+
+// The three lists of two accepted lists, written as far as there is room, and their counts.
+fn sweep(
+    pool: &[u8],
+    ours: &[u32],
+    theirs: &[u32],
+    both: &mut [u32],
+    mine: &mut [u32],
+    yours: &mut [u32],
+) -> ManyCounts
+    requires { ⌜ (listVerdict (now pool) (now ours) 0 ≡ accepted) × (listVerdict (now pool) (now theirs) 1 ≡ accepted) ⌝ }
+    ensures { λ r. ⌜ Put (now (both .entry)) 0 (sharedItems (now (pool .entry)) (now (ours .entry)) (now (theirs .entry))) (now (both .exit)) (r .«in_both») ⌝ }
+    ensures { λ r. ⌜ Put (now (mine .entry)) 0 (onlyItems (now (pool .entry)) (now (ours .entry)) (now (theirs .entry))) (now (mine .exit)) (r .ours) ⌝ }
+    ensures { λ r. ⌜ Put (now (yours .entry)) 0 (onlyItems (now (pool .entry)) (now (theirs .entry)) (now (ours .entry))) (now (yours .exit)) (r .theirs) ⌝ }
+{
+    let our_count = ours.len() / ITEM_SIZE;
+    let their_count = theirs.len() / ITEM_SIZE;
+    let mut n = ManyCounts {
+        in_both: 0,
+        ours: 0,
+        theirs: 0,
+    };
+    let mut i: usize = 0;
+    let mut j: usize = 0;
+    let mut x = set_at(ours, 0);
+    let mut y = set_at(theirs, 0);
+    while (i < our_count) & (j < their_count) {
+        let a = set_at(ours, i);
+        let b = set_at(theirs, j);
+        n = emit(pool, a, b, x, y, both, mine, yours, n);
+        let our_end = a.end;
+        let their_end = b.end;
+        match compare_in(pool, our_end, their_end) {
+            Ordering::Less => {
+                y = right_set(pool, y, a);
+                i += 1;
+                x = set_at(ours, i);
+            }
+            Ordering::Greater => {
+                x = right_set(pool, x, b);
+                j += 1;
+                y = set_at(theirs, j);
+            }
+            Ordering::Equal => {
+                i += 1;
+                j += 1;
+                x = set_at(ours, i);
+                y = set_at(theirs, j);
+            }
+        }
+    }
+    ManyCounts {
+        in_both: n.in_both,
+        ours: put_rest(pool, ours, i, x, mine, n.ours),
+        theirs: put_rest(pool, theirs, j, y, yours, n.theirs),
+    }
+}
+
+// The counts of the three lists: a pass that has no room to write.
+fn count(pool: &[u8], ours: &[u32], theirs: &[u32]) -> ManyCounts
+    requires { ⌜ (listVerdict (now pool) (now ours) 0 ≡ accepted) × (listVerdict (now pool) (now theirs) 1 ≡ accepted) ⌝ }
+    ensures { λ r. ⌜ r ≡ countsOf (now (pool .entry)) (now (ours .entry)) (now (theirs .entry)) ⌝ }
+{
+    let mut both = [0u32; 1];
+    let mut mine = [0u32; 1];
+    let mut yours = [0u32; 1];
+    sweep(pool, ours, theirs, &mut both, &mut mine, &mut yours)
+}
+
+// The pool, then ours entirely, then theirs entirely.
+fn check_lists(pool: &[u8], ours: &[u32], theirs: &[u32]) -> Checked
+    ensures { λ r. ⌜ verdictOf r ≡ listsVerdict (now (pool .entry)) (now (ours .entry)) (now (theirs .entry)) ⌝ }
+{
+    match check_pool(pool) {
+        Checked::Refused(r) => Checked::Refused(r),
+        Checked::Accepted => check_both(pool, ours, theirs),
+    }
+}
+
+fn check_both(pool: &[u8], ours: &[u32], theirs: &[u32]) -> Checked
+    ensures { λ r. ⌜ verdictOf r ≡ bothVerdict (now (pool .entry)) (now (ours .entry)) (now (theirs .entry)) ⌝ }
+{
+    match check_words(pool, ours, 0) {
+        Checked::Refused(r) => Checked::Refused(r),
+        Checked::Accepted => check_words(pool, theirs, 1),
+    }
+}
+
+fn passes_room(count: usize, out: &[u32]) -> bool
+    ensures { λ r. ⌜ r ≡ passes count (now (out .entry)) ⌝ }
+{
+    out.len() / ITEM_SIZE < count
+}
+
+// The room of the three lists, known before anything is written; then the lists.
+fn write_lists(
+    pool: &[u8],
+    ours: &[u32],
+    theirs: &[u32],
+    both: &mut [u32],
+    mine: &mut [u32],
+    yours: &mut [u32],
+) -> ManyAnswer
+    requires { ⌜ (listVerdict (now pool) (now ours) 0 ≡ accepted) × (listVerdict (now pool) (now theirs) 1 ≡ accepted) ⌝ }
+    ensures { λ r. ⌜ manyOf r ≡ roomAnswer (now (pool .entry)) (now (ours .entry)) (now (theirs .entry)) (now (both .entry)) (now (mine .entry)) (now (yours .entry)) ⌝ }
+    ensures { λ _. ⌜ now (both .exit) ≡ written (roomAnswer (now (pool .entry)) (now (ours .entry)) (now (theirs .entry)) (now (both .entry)) (now (mine .entry)) (now (yours .entry))) (sharedItems (now (pool .entry)) (now (ours .entry)) (now (theirs .entry))) (now (both .entry)) ⌝ }
+    ensures { λ _. ⌜ now (mine .exit) ≡ written (roomAnswer (now (pool .entry)) (now (ours .entry)) (now (theirs .entry)) (now (both .entry)) (now (mine .entry)) (now (yours .entry))) (onlyItems (now (pool .entry)) (now (ours .entry)) (now (theirs .entry))) (now (mine .entry)) ⌝ }
+    ensures { λ _. ⌜ now (yours .exit) ≡ written (roomAnswer (now (pool .entry)) (now (ours .entry)) (now (theirs .entry)) (now (both .entry)) (now (mine .entry)) (now (yours .entry))) (onlyItems (now (pool .entry)) (now (theirs .entry)) (now (ours .entry))) (now (yours .entry)) ⌝ }
+{
+    let n = count(pool, ours, theirs);
+    if passes_room(n.in_both, both) | passes_room(n.ours, mine) | passes_room(n.theirs, yours) {
+        return ManyAnswer::Refused(Refusal {
+            number: 6,
+            side: 0,
+            index: 0,
+        });
+    }
+    sweep(pool, ours, theirs, both, mine, yours);
+    ManyAnswer::Counts(n)
+}

@@ -1,9 +1,0 @@
--- `starts_by` meets its contract. Assumes nothing.
-use Rattle.position_intervals.proofs.Tests.{tests}
-use borrow.Author.Needs.{needs}
-use Rattle.position_intervals.proofs.gaps.starts_by.Statement.{statement}
-use Rattle.position_intervals.proofs.gaps.starts_by.Tie as tie
-
-pub starts-by-spec : {M : Type 1} → statement M
-starts-by-spec =
-    tie.close (tie.spec (λ c. search needs) (λ c. search needs) (λ c. search needs) (λ c. search tests) (λ c. search tests))

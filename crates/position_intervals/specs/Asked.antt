@@ -1,0 +1,47 @@
+-- The positions of intervals, one by one, and the answers of the calls that ask of them. Definitions only. Assumes nothing.
+use Prim.Native.Nat.{ℕ, zero, suc, _-_}
+use mathlib.Core.List.{List, [], _∷_, _++_}
+use mathlib.Core.Bool.{Bool}
+use lib.ListN.{length}
+use lib.Dec.{eqb}
+use Rattle.intervals.specs.Intervals.{Interval, holds}
+use Rattle.item_check.specs.Checks.{Answer, answered, andThen, refusedAs}
+use Rattle.position_intervals.specs.declared.YesOrNo.{YesOrNo}
+use Rattle.position_intervals.specs.declared.YesOrNo.the-variants as yesOrNo
+use Rattle.position_intervals.specs.declared.Length.{Length}
+use Rattle.position_intervals.specs.declared.Length.the-variants as size
+use Rattle.position_intervals.specs.Given.{intervalsOf, intervalsVerdict}
+
+-- ---- positions
+
+-- k numbers from s on
+unfoldable pub countUp : ℕ → ℕ → List ℕ
+countUp s zero = []
+countUp s (suc k) = s ∷ countUp (suc s) k
+
+-- 01 m6: half-open: the positions of each interval, from its start on, below its end
+unfoldable pub positionsOf : List Interval → List ℕ
+positionsOf [] = []
+positionsOf (a ∷ A) = countUp (a .0) (a .1 - a .0) ++ positionsOf A
+
+-- ---- answers
+
+abbrev pub containsAnswer : List ℕ → ℕ → Answer Bool
+containsAnswer ws p = andThen (intervalsVerdict ws) (answered (holds (intervalsOf ws) p))
+
+-- 01 m6: `len` is the number covered
+abbrev pub lenAnswer : List ℕ → Answer ℕ
+lenAnswer ws = andThen (intervalsVerdict ws) (answered (length (positionsOf (intervalsOf ws))))
+
+abbrev pub isEmptyAnswer : List ℕ → Answer Bool
+isEmptyAnswer ws = andThen (intervalsVerdict ws) (answered (eqb (length (positionsOf (intervalsOf ws))) 0))
+
+-- the paper's numbers and values for each case of the answers that the code gives
+
+abbrev pub yesOrNoOf : YesOrNo → Answer Bool
+yesOrNoOf (yesOrNo.Is b) = answered b
+yesOrNoOf (yesOrNo.Refused r) = refusedAs r
+
+abbrev pub lengthOf : Length → Answer ℕ
+lengthOf (size.Rows n) = answered (n .0)
+lengthOf (size.Refused r) = refusedAs r

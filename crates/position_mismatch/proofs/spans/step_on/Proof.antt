@@ -1,0 +1,13 @@
+-- `step_on` meets its contract: both tests at once. Assumes nothing.
+use borrow.Author.Needs.{needs}
+use Rattle.position_mismatch.proofs.spans.step_on.Statement.{statement}
+use Rattle.position_mismatch.proofs.spans.step_on.Tie as tie
+
+returns : tie.Need-returns
+returns c = rw (c .before .before .if1 .taken, c .one-more .ensures, c .before .over-span .ensures)
+
+returns-2 : tie.Need-returns-2
+returns-2 c = rw (c .if1 .left)
+
+pub step-on-spec : {M : Type 1} → statement M
+step-on-spec = tie.close (tie.spec (λ c κs. search needs) (λ c κs. search needs) returns returns-2)

@@ -1,0 +1,108 @@
+// How covered and proved positions compare: which are missing, and which are extra.
+ghost use mathlib.Core.Path.{_≡_};
+ghost use mathlib.Core.List.{[]};
+ghost use Prim.Native.Nat.{_+_, min};
+ghost use Rattle.item_check.specs.Checks.{verdictOf, accepted};
+ghost use Rattle.position_intervals.specs.Given.{intervalsOf};
+ghost use Rattle.position_intervals.specs.Inner.{Sound, Ascends, lastWord};
+ghost use Rattle.position_mismatch.specs.Reports.{missing, extra, reportOf, comparedOf, reportIn, missingAnswer, extraAnswer};
+use crate::Compared;
+use crate::PositionMismatch;
+use crate::Walk;
+use crate::gaps::first_past;
+use crate::gaps::over_span;
+use crate::gaps::push_run;
+use crate::gaps::report_until;
+use crate::gaps::starts_by;
+use item_check::Checked;
+use position_intervals::LAST_WORD;
+use position_intervals::given::check_proved;
+
+// Which covered positions are not proved.
+pub fn missing_from(intervals: &[u64], proved: &[u64]) -> Compared
+    ensures { λ r. ⌜ comparedOf r ≡ missingAnswer (now (intervals .entry)) (now (proved .entry)) ⌝ }
+    ensures { λ r. ⌜ r .report ≡ reportIn (missingAnswer (now (intervals .entry)) (now (proved .entry))) ⌝ }
+{
+    match check_proved(intervals, proved) {
+        Checked::Refused(r) => without_report(Checked::Refused(r)),
+        Checked::Accepted => with_report(missing_positions(intervals, proved)),
+    }
+}
+
+// Which proved positions are not covered.
+pub fn extra_in(intervals: &[u64], proved: &[u64]) -> Compared
+    ensures { λ r. ⌜ comparedOf r ≡ extraAnswer (now (intervals .entry)) (now (proved .entry)) ⌝ }
+    ensures { λ r. ⌜ r .report ≡ reportIn (extraAnswer (now (intervals .entry)) (now (proved .entry))) ⌝ }
+{
+    match check_proved(intervals, proved) {
+        Checked::Refused(r) => without_report(Checked::Refused(r)),
+        Checked::Accepted => with_report(extra_positions(intervals, proved)),
+    }
+}
+
+// The answers: a report, or a refusal beside the empty report.
+
+pub(crate) fn with_report(report: PositionMismatch) -> Compared
+    ensures { λ r. ⌜ (verdictOf (r .checked) ≡ accepted) × (r .report ≡ report) ⌝ }
+{
+    Compared {
+        checked: Checked::Accepted,
+        report,
+    }
+}
+
+pub(crate) fn without_report(checked: Checked) -> Compared
+    ensures { λ r. ⌜ (r .checked ≡ checked) × (r .report ≡ reportOf []) ⌝ }
+{
+    let report = PositionMismatch::empty();
+    Compared { checked, report }
+}
+
+// Walks along the intervals from one proved position to the next: each is a span of one. Linear in intervals and positions.
+fn missing_positions(intervals: &[u64], proved: &[u64]) -> PositionMismatch
+    requires sound { ⌜ Sound (now intervals) × Ascends 0 (now proved) ⌝ }
+    ensures { λ r. ⌜ r ≡ reportOf (missing (intervalsOf (now (intervals .entry))) (now (proved .entry))) ⌝ }
+{
+    let report = PositionMismatch::empty();
+    let mut walk = Walk {
+        pair: 0,
+        from: 0,
+        report,
+    };
+    let mut i: usize = 0;
+    while i < proved.len() {
+        let p = proved[i];
+        walk = over_span(intervals, walk, p, after(p));
+        i += 1;
+    }
+    report_until(intervals, walk, LAST_WORD).report
+}
+
+// The position after p, or p where it is the last u64, which nothing covers.
+fn after(p: u64) -> u64
+    ensures { λ r. ⌜ r ≡ min (p + 1) lastWord ⌝ }
+{
+    if p < LAST_WORD {
+        return p + 1;
+    }
+    p
+}
+
+// Asks of each proved position the first pair that ends above it. Linear in intervals and positions: the pair only moves on.
+fn extra_positions(intervals: &[u64], proved: &[u64]) -> PositionMismatch
+    requires sound { ⌜ Sound (now intervals) × Ascends 0 (now proved) ⌝ }
+    ensures { λ r. ⌜ r ≡ reportOf (extra (intervalsOf (now (intervals .entry))) (now (proved .entry))) ⌝ }
+{
+    let mut report = PositionMismatch::empty();
+    let mut pair: usize = 0;
+    let mut i: usize = 0;
+    while i < proved.len() {
+        let p = proved[i];
+        i += 1;
+        pair = first_past(intervals, pair, p);
+        if !starts_by(intervals, pair, p) {
+            report = push_run(report, p, 1);
+        }
+    }
+    report
+}

@@ -1,0 +1,98 @@
+// The core of `missing_from_spans`: a walk over spans, one start and end at a time, by value. `start`, a `step` for each span in order, and
+// `finish` give what `missing_from` gives on the positions that the spans contain: `spans-answer` in proofs/Laws.antt.
+ghost use mathlib.Core.Path.{_≡_};
+ghost use Prim.Native.Nat.{_+_, min};
+ghost use Rattle.position_intervals.specs.Inner.{lastWord};
+ghost use Rattle.position_mismatch.specs.Inner.{startOf, stepOn, stepOf, finishOf};
+use crate::Compared;
+use crate::PositionMismatch;
+use crate::SpanWalk;
+use crate::Walk;
+use crate::compare::without_report;
+use crate::gaps::over_span;
+use crate::gaps::report_until;
+use item_check::Checked;
+use item_check::Refusal;
+use position_intervals::LAST_WORD;
+use position_intervals::given::check_intervals;
+
+// inner: before the first span: the intervals are checked.
+pub fn start(intervals: &[u64]) -> SpanWalk
+    ensures { λ r. ⌜ r ≡ startOf (now (intervals .entry)) ⌝ }
+{
+    let checked = check_intervals(intervals);
+    let report = PositionMismatch::empty();
+    let walk = Walk {
+        pair: 0,
+        from: 0,
+        report,
+    };
+    SpanWalk {
+        checked,
+        seen: 0,
+        walk,
+    }
+}
+
+// inner: the next span.
+pub fn step(intervals: &[u64], so_far: SpanWalk, start: u64, end: u64) -> SpanWalk
+    ensures { λ r. ⌜ r ≡ stepOf (now (intervals .entry)) «so_far» start end ⌝ }
+{
+    let checked = so_far.checked;
+    match checked {
+        Checked::Refused(_) => so_far,
+        Checked::Accepted => step_on(intervals, so_far, start, end),
+    }
+}
+
+// The same where nothing is refused yet. Empty spans and touching ones are accepted.
+fn step_on(intervals: &[u64], so_far: SpanWalk, start: u64, end: u64) -> SpanWalk
+    ensures { λ r. ⌜ r ≡ stepOn (now (intervals .entry)) «so_far» start end ⌝ }
+{
+    let seen = so_far.seen;
+    let walk = so_far.walk;
+    if (walk.from <= start) & (start <= end) {
+        let next = over_span(intervals, walk, start, end);
+        return SpanWalk {
+            checked: Checked::Accepted,
+            seen: one_more(seen),
+            walk: next,
+        };
+    }
+    SpanWalk {
+        checked: Checked::Refused(Refusal {
+            number: 8,
+            side: 1,
+            index: seen,
+        }),
+        seen,
+        walk,
+    }
+}
+
+fn one_more(n: usize) -> usize
+    ensures { λ r. ⌜ r ≡ min (n + 1) lastWord ⌝ }
+{
+    if n < LAST_WORD as usize {
+        return n + 1;
+    }
+    n
+}
+
+// inner: after the last span: what is left of the intervals is missing.
+pub fn finish(intervals: &[u64], so_far: SpanWalk) -> Compared
+    ensures { λ r. ⌜ r ≡ finishOf (now (intervals .entry)) «so_far» ⌝ }
+{
+    let checked = so_far.checked;
+    let walk = so_far.walk;
+    match checked {
+        Checked::Refused(r) => without_report(Checked::Refused(r)),
+        Checked::Accepted => {
+            let report = report_until(intervals, walk, LAST_WORD).report;
+            Compared {
+                checked: Checked::Accepted,
+                report,
+            }
+        }
+    }
+}

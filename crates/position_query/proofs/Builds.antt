@@ -1,0 +1,160 @@
+-- The passes over items: the check of each, how many ranges there are, and the ranges written; a turn of each. Assumes nothing.
+use Prim.Native.Nat.{ℕ, suc, _+_, _-_, _*_, _/_, _≤_, _<_, min}
+use mathlib.Core.Path.{_≡_, refl, sym, ap, _∙_}
+use mathlib.Core.Bool.{cond}
+use mathlib.Core.List.{List, [], _++_, append-assoc, append-nil}
+use native.Mathlib.Numerals.{add-one}
+use native.Mathlib.Omega.{arith}
+use lib.ListN.{length, drop, length-append}
+use borrow.Author.Tests.{lt-ltb, le-ltb}
+use Rattle.intervals.specs.Intervals.{Interval, piece}
+use Rattle.intervals.specs.Intervals as interval
+use Rattle.intervals.proofs.Laws.{piece-some, piece-none}
+use Rattle.query_item.specs.Items.{itemAt, itemsFrom}
+use Rattle.item_check.specs.Checks.{Answer, answered, Verdict, accepted, refused, andThen, poolVerdict, shapeVerdict, itemsOf}
+use Rattle.item_check.proofs.Laws.{accepts, fault-refused, items-end, items-more}
+use Rattle.pairs_sort.specs.Pairs.{pairsFrom, pairs, put, pushes, Merged}
+use Rattle.pairs_sort.proofs.Laws.{pairs-length, push-length, push-pairs, push-kept}
+use Rattle.position_query.specs.Covered.{positionFault, firstFault, queryVerdict, FromQueryItems}
+use Rattle.position_intervals.specs.Inner.{lastWord}
+use Rattle.position_query.specs.Inner.{clipped, ranges, Wrote, Building}
+use Rattle.position_query.proofs.Keys.{Bytes}
+use Rattle.position_query.proofs.Ranges.{ranges-covered, ranges-needed}
+
+-- ---- the check
+
+module _ (pool ws : List ℕ) (i count : ℕ) where
+  abbrev faultLeft : ℕ → Verdict
+  faultLeft j = firstFault pool j (itemsFrom ws j (count - j))
+
+  pub fault-end : count ≤ i → faultLeft i ≡ accepted
+  unfolding firstFault
+  fault-end h = rw (items-end ws i count h)
+
+  pub fault-here : {f : ℕ} → i < count → f ≡ positionFault pool (itemAt ws i) → (f ≡ 0 → ⊥) → faultLeft i ≡ refused f 0 i
+  unfolding firstFault
+  fault-here {f} h e bad = rw (items-more ws i count h, ← e, fault-refused f 0 i bad)
+
+  pub fault-next : {f : ℕ} → i < count → f ≡ positionFault pool (itemAt ws i) → f ≡ 0 → faultLeft i ≡ faultLeft (i + 1)
+  unfolding firstFault
+  fault-next h e good = rw (items-more ws i count h, ← e, good, add-one i)
+
+-- ---- how many ranges
+
+module _ (pool : List ℕ) (count : ℕ) (ws : List ℕ) (n i : ℕ) where
+  abbrev rangesLeft : ℕ → List Interval
+  rangesLeft j = ranges pool count (itemsFrom ws j (n - j))
+
+  pub ranges-end : n ≤ i → rangesLeft i ≡ []
+  unfolding ranges
+  ranges-end h = rw (items-end ws i n h)
+
+  module _ (s e : ℕ) (is : (s, e) ≡ clipped pool count (itemAt ws i)) where
+    pub ranges-more : i < n → rangesLeft i ≡ piece s e ++ rangesLeft (i + 1)
+    unfolding ranges
+    ranges-more h = rw (items-more ws i n h, ← is)
+
+    pub ranges-some : i < n → s < e → length (rangesLeft i) ≡ suc (length (rangesLeft (i + 1)))
+    ranges-some h l = rw (ranges-more h, piece-some s e l)
+
+    pub ranges-none : i < n → e ≤ s → length (rangesLeft i) ≡ length (rangesLeft (i + 1))
+    ranges-none h l = rw (ranges-more h, piece-none s e l)
+
+-- ---- the ranges written
+
+-- k of the ranges stand as the first pairs, and the others are still to come
+pub record Writing (pool : List ℕ) (count : ℕ) (ws old new : List ℕ) (n k i : ℕ) : Type 0 where
+  pub within : i ≤ n
+  pub size : length new ≡ length old
+  pub room : 2 * length (ranges pool count (itemsFrom ws 0 n)) ≤ length old
+  pub whole : ranges pool count (itemsFrom ws 0 n) ≡ pairs new k ++ ranges pool count (itemsFrom ws i (n - i))
+  pub later : drop (2 * length (ranges pool count (itemsFrom ws 0 n))) new ≡ drop (2 * length (ranges pool count (itemsFrom ws 0 n))) old
+
+pub writing-start : (pool : List ℕ) (count : ℕ) (ws old : List ℕ) (n : ℕ) → 2 * length (ranges pool count (itemsFrom ws 0 n)) ≤ length old
+    → Writing pool count ws old old n 0 0
+unfolding pairsFrom
+writing-start pool count ws old n h = record {
+  within = omega arith;
+  size = refl;
+  room = h;
+  whole = let z : n - 0 ≡ n = omega arith in rw z;
+  later = refl;
+}
+
+module _ (pool : List ℕ) (count : ℕ) (ws old new : List ℕ) (n k i : ℕ) (W : Writing pool count ws old new n k i) where
+  abbrev all : List Interval
+  all = ranges pool count (itemsFrom ws 0 n)
+
+  pub writing-more : (s e : ℕ) → (s, e) ≡ clipped pool count (itemAt ws i) → (v : List ℕ) (r : ℕ) → r ≡ cond (pushes new k s e) (k + 1) k
+      → v ≡ cond (pushes new k s e) (put new k s e) new → i < n → Writing pool count ws old v n r (i + 1)
+  writing-more s e is v r is-r is-v h =
+      let sizes : length all ≡ k + length (ranges pool count (itemsFrom ws i (n - i))) =
+      ap length (W .whole) ∙ length-append (pairs new k) (ranges pool count (itemsFrom ws i (n - i))) ∙ rw (pairs-length new k 0) in
+      let fits : s < e → 2 * k + 2 ≤ 2 * length all = (λ l. omega (arith, ranges-some pool count ws n i s e is h l, sizes)) in record {
+        within = omega arith;
+        size = push-length new k s e v r is-r is-v ∙ W .size;
+        room = W .room;
+        whole = W .whole
+            ∙ rw (ranges-more pool count ws n i s e is h, push-pairs new k s e v r is-r is-v (λ l. omega (arith, fits l, W .room, W .size)), append-assoc);
+        later = push-kept new k s e v r is-r is-v (2 * length all) fits ∙ W .later;
+      }
+
+  pub writing-end : n ≤ i → Wrote all old new
+  writing-end h =
+      let whole : all ≡ pairs new k = W .whole ∙ rw (ranges-end pool count ws n i h, append-nil) in
+      let size : length all ≡ k = ap length whole ∙ pairs-length new k 0 in
+      record { front = ap (λ (m : ℕ). pairs new m) size ∙ sym whole; later = W .later }
+
+-- ---- what is built
+
+module _ (pool ws : List ℕ) (count : ℕ) (old : List ℕ) (k : ℕ) (is-k : k ≡ length (ranges pool count (itemsOf ws))) where
+  abbrev whole : List Interval
+  whole = ranges pool count (itemsOf ws)
+
+  pub build-short : length old / 2 < k → Building pool ws count old old (refused 6 0 0)
+  build-short h = record {
+    verdict = rw (lt-ltb (length old / 2) (length whole) (omega arith));
+    written = λ m e. let z : _≡_ {A = ℕ} 0 1 = cc in absurd (omega arith);
+    kept = λ n s i e. refl;
+  }
+
+  pub build-whole : (mid new : List ℕ) (m : ℕ) → k ≤ length old / 2 → length mid ≡ length old → Wrote whole old mid
+      → Merged (min k (length mid / 2)) mid new m → Building pool ws count old new (answered m)
+  build-whole mid new m h size W M =
+      let n : min k (length mid / 2) ≡ length whole = omega arith in
+      let R : Merged (length whole) mid new m = rw n at M in record {
+        verdict = rw (le-ltb (length old / 2) (length whole) (omega arith));
+        written = λ m′ e. let same : m ≡ m′ = cc in rw (← same) (
+          R .canonical,
+          λ p. R .same p ∙ ap (λ (A : List Interval). interval.holds A p) (W .front),
+          R .freed,
+          R .later ∙ W .later,
+        );
+        kept = λ number s i e. let z : _≡_ {A = ℕ} 0 1 = cc in absurd (omega arith);
+      }
+
+-- ---- the whole call
+
+pub from-refused : (pool ws : List ℕ) (count : ℕ) (old : List ℕ) (n s i : ℕ) → queryVerdict pool ws ≡ refused n s i
+    → FromQueryItems pool ws count old old (refused n s i)
+from-refused pool ws count old n s i e = record {
+  verdict = rw e;
+  written = λ m h. let z : _≡_ {A = ℕ} 0 1 = cc in absurd (omega arith);
+  kept = λ a b d h. refl;
+}
+
+pub from-built : (pool ws : List ℕ) (count : ℕ) (old new : List ℕ) (r : Answer ℕ) → Bytes pool → count ≤ lastWord → queryVerdict pool ws ≡ accepted
+    → Building pool ws count old new r → FromQueryItems pool ws count old new r
+from-built pool ws count old new r B few e M =
+    let rest = accepts (poolVerdict pool) (andThen (shapeVerdict ws 0) (firstFault pool 0 (itemsOf ws))) .0 e in
+    let good = accepts (shapeVerdict ws 0) (firstFault pool 0 (itemsOf ws)) .0 (rest .1) in
+    let needed = ranges-needed pool B count few 0 (itemsOf ws) (good .1) in record {
+      verdict = rw (e, ← needed) (M .verdict);
+      written = λ m h. let w = M .written m h in record {
+        canonical = w .0;
+        covers = λ p. w .1 p ∙ ranges-covered pool B count few 0 (itemsOf ws) (good .1) p;
+        freed = rw (← needed) (w .2);
+        later = rw (← needed) (w .3);
+      };
+      kept = M .kept;
+    }

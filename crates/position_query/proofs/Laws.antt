@@ -1,0 +1,112 @@
+-- Each law that a caller cites, in the order of specs/: that answers are told apart, which positions an item holds, and that there is one
+-- answer. No contract cites this file. Assumes nothing.
+use Prim.Native.Nat.{ℕ, zero, suc, _+_, _-_, _*_, _/_, _≤_, _<_}
+use mathlib.Core.Path.{_≡_, refl, sym, ap, _∙_}
+use mathlib.Core.Bool.{false}
+use mathlib.Core.List.{List}
+use native.Mathlib.Decide.{decLt, ℕ-discrete}
+use native.Mathlib.Omega.{arith}
+use lib.ListN.{length, getD, drop}
+use lib.Seq.{ext-getD, getD-drop}
+use borrow.Author.Tests.{le-ltb}
+use Rattle.intervals.specs.Intervals.{Interval}
+use Rattle.intervals.proofs.Laws.{canonical-unique}
+use Rattle.query_item.specs.declared.ItemWords.{ItemWords}
+use Rattle.item_check.specs.Checks.{Answer, answered, refused, itemsOf}
+use Rattle.item_check.proofs.Laws.{refused-apart}
+use Rattle.pairs_sort.specs.Pairs.{start, finish, pairsFrom, pairs}
+use Rattle.pairs_sort.proofs.Laws.{pairs-length}
+use Rattle.position_intervals.specs.Inner.{lastWord}
+use Rattle.position_query.specs.declared.PositionKey.{PositionKey}
+use Rattle.position_query.specs.declared.PositionKey.the-variants as key
+use Rattle.position_query.specs.declared.Built.{Built}
+use Rattle.position_query.specs.declared.Built.the-variants as built
+use Rattle.position_query.specs.Keys.{positionOf}
+use Rattle.position_query.specs.Covered.{covered, rangesNeeded, builtOf, Covers, FromQueryItems}
+pub use Rattle.position_query.proofs.Ranges.{item-held}
+
+-- ---- answers are told apart
+
+pub position-apart : (r s : PositionKey) → positionOf r ≡ positionOf s → r ≡ s
+position-apart (key.At p) (key.At q) e = let h : p .0 ≡ q .0 = cc in λ i. key.At (record { 0 = h i })
+position-apart (key.At p) key.Refused e = cc
+position-apart key.Refused (key.At q) e = cc
+position-apart key.Refused key.Refused e = refl
+
+pub built-apart : (r s : Built) → builtOf r ≡ builtOf s → r ≡ s
+built-apart (built.Pairs m) (built.Pairs n) e = let h : m ≡ n = cc in ap built.Pairs h
+built-apart (built.Pairs m) (built.Refused s) e = cc
+built-apart (built.Refused r) (built.Pairs n) e = cc
+built-apart (built.Refused r) (built.Refused s) e = ap built.Refused (refused-apart r s e)
+
+-- ---- one answer of `from_query_items`
+
+-- u64::MAX is below no count, so that it is covered never
+pub last-never : (pool : List ℕ) (its : List ItemWords) (count : ℕ) → count ≤ lastWord → covered pool its count lastWord ≡ false
+unfolding covered
+last-never pool its count h = rw (le-ltb lastWord count h)
+
+-- there is one list of canonical pairs that holds exactly the covered positions
+pub covers-unique : (pool ws : List ℕ) (count : ℕ) (old new new′ : List ℕ) (m m′ : ℕ) → Covers pool ws count old new m → Covers pool ws count old new′ m′
+    → pairs new m ≡ pairs new′ m′
+covers-unique pool ws count old new new′ m m′ C D =
+    canonical-unique (pairs new m) (pairs new′ m′) (C .canonical) (D .canonical) (λ p. C .covers p ∙ sym (D .covers p))
+
+pair-at : (ws : List ℕ) (k i j : ℕ) → j < k → getD (pairsFrom ws i k) j (0, 0) ≡ (start ws (i + j), finish ws (i + j))
+unfolding pairsFrom
+pair-at ws zero i j h = absurd (omega arith)
+pair-at ws (suc k) i zero h = let q : i + 0 ≡ i = omega arith in rw q
+pair-at ws (suc k) i (suc j) h = let q : i + suc j ≡ suc i + j = omega arith in rw q (pair-at ws k (suc i) j (omega arith))
+
+-- words of equal pairs, and words past a place from which two lists are the same
+
+front : (a b : List ℕ) (m i : ℕ) → pairs a m ≡ pairs b m → i < 2 * m → getD a i 0 ≡ getD b i 0
+front a b m i e h =
+    let j = i / 2 in
+    let z : 0 + j ≡ j = omega arith in
+    let at : _≡_ {A = Interval} (start a j, finish a j) (start b j, finish b j) =
+    sym (rw z at (pair-at a m 0 j (omega arith))) ∙ ap (λ (L : List Interval). getD L j (0, 0)) e ∙ rw z at (pair-at b m 0 j (omega arith)) in
+    elim (ℕ-discrete (2 * j) i) [
+      | yes q ↦ rw q at (ap (λ (x : Interval). x .0) at)
+      | no q ↦
+          let odd : 2 * j + 1 ≡ i = elim (decLt (2 * j) i) [ yes u ↦ omega arith | no u ↦ absurd (q (omega arith)) ] in
+          rw odd at (ap (λ (x : Interval). x .1) at)
+    ]
+
+back : (a b : List ℕ) (n i : ℕ) → n ≤ i → drop n a ≡ drop n b → getD a i 0 ≡ getD b i 0
+back a b n i h e =
+    let q : n + (i - n) ≡ i = omega arith in
+    rw (getD-drop n a (i - n) 0, getD-drop n b (i - n) 0, q) at (ap (λ (L : List ℕ). getD L (i - n) 0) e)
+
+never : {X : Type 0} {a : Unit {0}} {n s i : ℕ} → answered a ≡ refused n s i → X
+never e = let z : _≡_ {A = ℕ} 0 1 = cc in absurd (omega arith)
+
+module _ (pool ws : List ℕ) (count : ℕ) (old new new′ : List ℕ) (l : length new ≡ length old) (l′ : length new′ ≡ length old) where
+  pub words-unique : (m m′ : ℕ) → Covers pool ws count old new m → Covers pool ws count old new′ m′ → (m ≡ m′) × (new ≡ new′)
+  words-unique m m′ C D =
+      let same : pairs new m ≡ pairs new′ m′ = covers-unique pool ws count old new new′ m m′ C D in
+      let e : m ≡ m′ = sym (pairs-length new m 0) ∙ ap length same ∙ pairs-length new′ m′ 0 in
+      (e, ext-getD 0 new new′ (l ∙ sym l′) (λ i h. word i (rw (← e) at same) (rw (← e) at (D .freed))))
+    where
+      word : (i : ℕ) → pairs new m ≡ pairs new′ m → ((j : ℕ) → 2 * m ≤ j → j < 2 * rangesNeeded pool count (itemsOf ws) → getD new′ j 0 ≡ 0)
+          → getD new i 0 ≡ getD new′ i 0
+      word i same zeros = elim (decLt i (2 * m)) [
+        | yes h ↦ front new new′ m i same h
+        | no h ↦ elim (decLt i (2 * rangesNeeded pool count (itemsOf ws))) [
+          | yes k ↦ C .freed i (omega arith) k ∙ sym (zeros i (omega arith) k)
+          | no k ↦ back new new′ (2 * rangesNeeded pool count (itemsOf ws)) i (omega arith) (C .later ∙ sym (D .later))
+        ]
+      ]
+
+  -- any two answers that the promise of `from_query_items` allows are equal, and so are the words
+  pub from-query-items-unique : (r r′ : Answer ℕ) → FromQueryItems pool ws count old new r → FromQueryItems pool ws count old new′ r′ → (r ≡ r′) × (new ≡ new′)
+  from-query-items-unique (answered m) (answered m′) F G =
+      let both = words-unique m m′ (F .written m refl) (G .written m′ refl) in (ap answered (both .0), both .1)
+  from-query-items-unique (answered m) (refused n s i) F G = never (F .verdict ∙ sym (G .verdict))
+  from-query-items-unique (refused n s i) (answered m) F G = never (G .verdict ∙ sym (F .verdict))
+  from-query-items-unique (refused n s i) (refused n′ s′ i′) F G =
+      let e : _≡_ {A = Answer (Unit {0})} (refused n s i) (refused n′ s′ i′) = F .verdict ∙ sym (G .verdict) in
+      let a : n ≡ n′ = cc in
+      let b : s ≡ s′ = cc in
+      let d : i ≡ i′ = cc in
+      ((λ j. refused (a j) (b j) (d j)), F .kept n s i refl ∙ sym (G .kept n′ s′ i′ refl))

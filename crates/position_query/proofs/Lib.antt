@@ -1,0 +1,4 @@
+pub mod Laws
+pub mod Keys
+pub mod Ranges
+pub mod Builds
