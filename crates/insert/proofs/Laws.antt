@@ -8,7 +8,7 @@ use native.Mathlib.Omega.{arith}
 use lib.ListN.{length, take, drop, replicate}
 use Rattle.key_order.specs.Order.{isLess}
 use Rattle.query_item.specs.declared.ItemWords.{ItemWords}
-use Rattle.query_item.specs.Items.{itemSize, itemsFrom, holds, queryItem}
+use Rattle.query_item.specs.Items.{itemSize, itemsFrom, holds, queryItem, holdsAny}
 use Rattle.item_check.specs.Checks.{accepted, uprightFault}
 use Rattle.insert_order.specs.Order.{orderItems}
 use Rattle.insert_order.specs.Refusals.{orderVerdict, orderedVerdict}
@@ -16,7 +16,7 @@ use Rattle.insert_order.proofs.Ordered.{Among}
 use Rattle.insert.specs.declared.Inserted.{Inserted}
 use Rattle.insert.specs.declared.Inserted.the-variants.{Count, Refused}
 use Rattle.insert.specs.declared.Fate.the-variants.{Stays}
-use Rattle.insert.specs.Insertion.{fateOf, staying, mergedWith, placed, inserted, holdsAny}
+use Rattle.insert.specs.Insertion.{fateOf, staying, mergedWith, placed, inserted}
 use Rattle.insert.specs.Answers.{insertedOf, laid}
 use Rattle.insert.specs.Passes.{firstChanged}
 use Rattle.insert.proofs.Written.{items-flat}

@@ -9,13 +9,13 @@ use lib.ListN.{length, take, drop}
 use lib.Seq.{drop-drop}
 use Rattle.key_order.specs.Order.{isLess}
 use Rattle.query_item.specs.declared.ItemWords.{ItemWords}
-use Rattle.query_item.specs.Items.{itemSize, itemAt, itemsFrom, withItem}
+use Rattle.query_item.specs.Items.{itemSize, itemAt, itemsFrom, flatAll, withItem}
 use Rattle.item_check.proofs.Scans.{items-end, items-more}
 use Rattle.insert_order.specs.Order.{orderItems}
 use Rattle.insert.specs.declared.Fate.{Fate}
 use Rattle.insert.specs.declared.Fate.the-variants.{Replaced, Stays, Merges}
 use Rattle.insert.specs.Insertion.{fateOf, keepBy, staying, placed}
-use Rattle.insert.specs.Answers.{flatAll, laid}
+use Rattle.insert.specs.Answers.{laid}
 use Rattle.insert.specs.Passes.{isStaying, pick, goesFirst, Moved, cleared}
 use Rattle.insert.proofs.Written.{take-with, drop-with, length-with, item-alike}
 

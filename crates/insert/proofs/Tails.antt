@@ -12,12 +12,12 @@ use lib.Dec.{ltb}
 use borrow.Author.Tests.{ltb-false}
 use Rattle.key_order.specs.Order.{isLess}
 use Rattle.query_item.specs.declared.ItemWords.{ItemWords}
-use Rattle.query_item.specs.Items.{itemSize, itemAt, itemsFrom}
+use Rattle.query_item.specs.Items.{itemSize, itemAt, itemsFrom, flatAll}
 use Rattle.insert_order.specs.Order.{orderItems}
 use Rattle.insert.specs.declared.Fate.{Fate}
 use Rattle.insert.specs.declared.Fate.the-variants.{Replaced, Stays, Merges}
 use Rattle.insert.specs.Insertion.{fateOf, keepBy, staying, mergedWith, placed, inserted}
-use Rattle.insert.specs.Answers.{flatAll, laid}
+use Rattle.insert.specs.Answers.{laid}
 use Rattle.insert.specs.Passes.{isStaying, keepsPlace, firstChanged}
 use Rattle.insert.proofs.Written.{items-drop, flat-append, flat-front, length-items}
 

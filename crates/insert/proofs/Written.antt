@@ -8,8 +8,7 @@ use lib.ListN.{length, getD, take, drop, replicate, length-append, take-append-d
 use lib.Seq.{length-take-le, drop-cons, sets-eq, length-sets, take-at, drop-at, getD-drop, drop-drop}
 use borrow.Author.Tests.{lt-ltb}
 use Rattle.query_item.specs.declared.ItemWords.{ItemWords}
-use Rattle.query_item.specs.Items.{itemSize, itemAt, itemsFrom, flat, withItem}
-use Rattle.insert.specs.Answers.{flatAll}
+use Rattle.query_item.specs.Items.{itemSize, itemAt, itemsFrom, flat, flatAll, withItem}
 use Rattle.insert.specs.Passes.{zeroItem, cleared}
 
 -- ---- an item is written

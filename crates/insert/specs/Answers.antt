@@ -1,11 +1,11 @@
 -- What `insert_item` answers and writes: the checks, the room, the words. Definitions only. Assumes nothing.
 use Prim.Native.Nat.{ℕ, _-_, _*_, _/_, max}
-use mathlib.Core.List.{List, [], _∷_, _++_}
+use mathlib.Core.List.{List, _++_}
 use mathlib.Core.Bool.{cond, _||_}
 use lib.ListN.{length, drop, replicate}
 use lib.Dec.{ltb}
 use Rattle.query_item.specs.declared.ItemWords.{ItemWords}
-use Rattle.query_item.specs.Items.{itemSize, itemsFrom, flat}
+use Rattle.query_item.specs.Items.{itemSize, itemsFrom, flatAll}
 use Rattle.item_check.specs.Checks.{Answer, answered, refused, andThen, refusedAs, mostItems}
 use Rattle.insert_order.specs.Refusals.{inputVerdict}
 use Rattle.insert.specs.declared.Inserted.{Inserted}
@@ -24,11 +24,6 @@ abbrev pub roomAnswer : List ℕ → ℕ → Answer ℕ
 roomAnswer ws n = cond (ltb (length ws / itemSize) n || ltb mostItems n) (refused 6 0 0) (answered n)
 
 -- ---- the words
-
--- the words of a list of items
-unfoldable pub flatAll : List ItemWords → List ℕ
-flatAll [] = []
-flatAll (it ∷ its) = flat it ++ flatAll its
 
 -- 01 m5: the words of the list; freed words up to the old count become 0, later ones stay
 unfoldable pub laid : List ℕ → ℕ → List ItemWords → List ℕ

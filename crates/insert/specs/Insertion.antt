@@ -2,14 +2,14 @@
 -- nothing.
 use Prim.Native.Nat.{ℕ}
 use mathlib.Core.List.{List, [], _∷_}
-use mathlib.Core.Bool.{Bool, false, cond, not, _||_, _&&_}
+use mathlib.Core.Bool.{Bool, cond, not, _||_, _&&_}
 use Rattle.key_order.specs.Order.{smaller, isLess}
 use Rattle.query_item.specs.declared.ItemWords.{ItemWords}
 use Rattle.query_item.specs.declared.RangeSetItem.{RangeSetItem}
 use Rattle.query_item.specs.declared.RangeSet.{RangeSet}
 use Rattle.query_item.specs.declared.MaybeItem.{MaybeItem}
 use Rattle.query_item.specs.declared.MaybeItem.the-variants.{NoItem, Item}
-use Rattle.query_item.specs.Items.{wordsOf, queryItem, holds}
+use Rattle.query_item.specs.Items.{wordsOf}
 use Rattle.query_item.specs.Boundaries.{compareIn, fromTo, rangeOf, toQueryItem}
 use Rattle.insert_order.specs.Order.{orderItems, plain, sameItem, endsBelow}
 use Rattle.insert.specs.declared.Fate.{Fate}
@@ -77,10 +77,3 @@ placed pool result (it ∷ its) = cond (isLess (orderItems pool it result)) (it 
 -- 01 m5, reading A7: what is replaced or merged is taken out, then the result is put anew
 unfoldable pub inserted : List ℕ → ItemWords → List ItemWords → List ItemWords
 inserted pool new its = placed pool (mergedWith pool new new its) (staying pool new its)
-
--- ---- which keys a list holds
-
--- those that one of its items holds by the table of 01
-unfoldable pub holdsAny : List ℕ → List ItemWords → List ℕ → Bool
-holdsAny pool [] k = false
-holdsAny pool (it ∷ its) k = holds pool (queryItem it) k || holdsAny pool its k

@@ -7,12 +7,11 @@ use mathlib.Core.Bool.{Bool, true, false, cond, _&&_}
 use lib.ListN.{length, take, drop, replicate}
 use Rattle.key_order.specs.Order.{isLess}
 use Rattle.query_item.specs.declared.ItemWords.{ItemWords}
-use Rattle.query_item.specs.Items.{itemSize, itemWords, absent}
+use Rattle.query_item.specs.Items.{itemSize, itemWords, absent, flatAll}
 use Rattle.insert_order.specs.Order.{orderItems}
 use Rattle.insert.specs.declared.Fate.{Fate}
 use Rattle.insert.specs.declared.Fate.the-variants.{Replaced, Stays, Merges}
 use Rattle.insert.specs.Insertion.{fateOf}
-use Rattle.insert.specs.Answers.{flatAll}
 
 -- ---- what changes
 

@@ -11,7 +11,7 @@ use Rattle.key_order.proofs.Ranks.{keyRank}
 use Rattle.query_item.specs.declared.ItemWords.{ItemWords}
 use Rattle.query_item.specs.declared.QueryItem.{QueryItem}
 use Rattle.query_item.specs.declared.RangeSet.{RangeSet}
-use Rattle.query_item.specs.Items.{queryItem}
+use Rattle.query_item.specs.Items.{queryItem, holdsAny}
 use Rattle.query_item.specs.Boundaries.{rangeOf, toRangeSet}
 use Rattle.query_item.proofs.Laws.{holds-interval}
 use Rattle.item_check.specs.Checks.{poolVerdict, listVerdict, itemsOf}
@@ -22,7 +22,7 @@ use Rattle.intervals.proofs.Laws as intervals
 use Rattle.intervals.proofs.Laws.{All}
 use Rattle.intersect.specs.Pair.{meetSets}
 use Rattle.intersect_many.specs.Lists.{setsOf, convertAll, cutSets, sharedItems, onlyItems, wordsAll}
-use Rattle.intersect_many.specs.Demand.{sharedWords, withoutWords, Accepted, Fits, anyHolds, listHolds, SameItems}
+use Rattle.intersect_many.specs.Demand.{sharedWords, withoutWords, Accepted, Fits, listHolds, SameItems}
 use Rattle.intersect_many.proofs.Carried.{iv, Fine, shared-fine, shared-carried, without-fine, without-carried}
 use Rattle.intersect_many.proofs.Listed.{items-of-words, sets-of-words, itemIv, convert-fine, convert-carried, words-accepted}
 use Rattle.intersect_many.proofs.Shown.{same-shown}
@@ -69,8 +69,8 @@ module _ (pool : List ℕ) (n : ℕ) (fits : size pool ≤ n) where
         ∙ convert-carried pool n fits (withoutOf (cutSets pool) (setsOf A) (setsOf B)) without-sets
         ∙ without-carried pool n fits (setsOf A) (setsOf B) (list-fine pool n fits A a) (list-fine pool n fits B b)
 
-  any-holds : (its : List ItemWords) (k : List ℕ) → size k ≤ n → anyHolds pool its k ≡ holds (map (iv pool n fits) (map rangeOf its)) (keyRank n k)
-  unfolding holds
+  any-holds : (its : List ItemWords) (k : List ℕ) → size k ≤ n → holdsAny pool its k ≡ holds (map (iv pool n fits) (map rangeOf its)) (keyRank n k)
+  unfolding holds holdsAny
   any-holds [] k l = refl
   any-holds (it ∷ its) k l = rw (holds-interval pool n fits (queryItem it) k l, any-holds its k l)
 

@@ -2,12 +2,12 @@
 -- Definitions only. Assumes nothing.
 use Prim.Native.Nat.{ℕ, _≤_}
 use mathlib.Core.Path.{_≡_}
-use mathlib.Core.Bool.{Bool, false, _||_}
+use mathlib.Core.Bool.{Bool}
 use mathlib.Core.List.{List, [], _∷_, map}
 use lib.ListN.{length}
 use Rattle.query_item.specs.declared.ItemWords.{ItemWords}
 use Rattle.query_item.specs.declared.QueryItem.{QueryItem}
-use Rattle.query_item.specs.Items.{bytesOf, holds, queryItem}
+use Rattle.query_item.specs.Items.{bytesOf, holdsAny}
 use Rattle.item_check.specs.Checks.{accepted, mostItems, itemsOf, checkVerdict}
 use Rattle.intersect_many.specs.Lists.{sharedItems, onlyItems, wordsAll}
 
@@ -26,13 +26,9 @@ Accepted pool ws = checkVerdict pool ws 0 ≡ accepted
 abbrev pub Fits : List QueryItem → Type 0
 Fits Q = length Q ≤ mostItems
 
--- a list holds a key when one of its items does
-abbrev pub anyHolds : List ℕ → List ItemWords → List ℕ → Bool
-anyHolds pool [] k = false
-anyHolds pool (it ∷ its) k = holds pool (queryItem it) k || anyHolds pool its k
-
+-- a list of words holds a key when one of its items does
 abbrev pub listHolds : List ℕ → List ℕ → List ℕ → Bool
-listHolds pool ws k = anyHolds pool (itemsOf ws) k
+listHolds pool ws k = holdsAny pool (itemsOf ws) k
 
 -- an item's kind, wrapper and key bytes
 abbrev pub Shown : Type 0

@@ -1,7 +1,7 @@
 -- Items: the keys that they name, their words and codes, and which keys they hold. Definitions only. Assumes nothing.
 use Prim.Native.Nat.{ℕ, zero, suc, _+_, _*_, _/_}
-use mathlib.Core.List.{List, [], _∷_}
-use mathlib.Core.Bool.{Bool, true, cond, _&&_}
+use mathlib.Core.List.{List, [], _∷_, _++_}
+use mathlib.Core.Bool.{Bool, true, false, cond, _||_, _&&_}
 use lib.ListN.{length, getD, take, drop}
 use lib.Seq.{sets}
 use lib.Dec.{ltb, eqb}
@@ -112,6 +112,16 @@ queryItem it = itemOf (it .code) (it .start) (it .end)
 abbrev pub flat : ItemWords → List ℕ
 flat it = it .code ∷ it .wrapper ∷ it .start .offset ∷ it .start .length ∷ it .end .offset ∷ it .end .length ∷ []
 
+-- the words of a list of items
+unfoldable pub flatAll : List ItemWords → List ℕ
+flatAll [] = []
+flatAll (it ∷ its) = flat it ++ flatAll its
+
 -- a list of words with an item written at an index; where it has no room nothing is written
 unfoldable pub withItem : List ℕ → ℕ → ItemWords → List ℕ
 withItem ws i it = cond (ltb i (length ws / itemSize)) (sets ws (itemSize * i) (flat it)) ws
+
+-- a list holds a key when one of its items does, by the table
+unfoldable pub holdsAny : List ℕ → List ItemWords → List ℕ → Bool
+holdsAny pool [] k = false
+holdsAny pool (it ∷ its) k = holds pool (queryItem it) k || holdsAny pool its k

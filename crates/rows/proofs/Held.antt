@@ -3,7 +3,7 @@ use mathlib.Core.Path.{_≡_, refl}
 use mathlib.Core.List.{map}
 use Rattle.key_order.specs.Order.{compareNumbers, compareKeys}
 use Rattle.key_order.specs.Boundary.{compareBoundaries}
-use Rattle.query_item.specs.Items.{itemAt, itemsFrom}
+use Rattle.query_item.specs.Items.{itemAt, itemsFrom, flatAll}
 use Rattle.item_check.specs.Checks.{firstBad, firstBreak, strictVerdict}
 use Rattle.intervals.specs.Lists.{meetsOf, sharedOf, cutsOf, withoutOf}
 use Rattle.intervals.specs.Intervals.{inside, holds}
@@ -21,5 +21,5 @@ use Rattle.position_mismatch.specs.Reports.{isIn, keep, missing, reportOf}
 use Rattle.rows.specs.Rows.{Result, Row, rows}
 
 pub rows-hold : map {B = Result} (λ (r : Row). r .0) rows ≡ map (λ (r : Row). r .1) rows
-unfolding compareNumbers compareKeys compareBoundaries itemAt itemsFrom firstBad firstBreak strictVerdict meetsOf sharedOf cutsOf withoutOf meetSets leftOver rightOver convertAll sharedItems onlyItems wordsAll orderItems sameItem endsBelow clashes fateOf staying merged mergedWith placed inserted firstClash inside holds pairsFrom firstTouching canonicalVerdict firstFalling ascendingVerdict countUp positionsOf beBytes holdsPosition someHolds covered firstFault isIn keep missing reportOf
+unfolding compareNumbers compareKeys compareBoundaries itemAt itemsFrom flatAll firstBad firstBreak strictVerdict meetsOf sharedOf cutsOf withoutOf meetSets leftOver rightOver convertAll sharedItems onlyItems wordsAll orderItems sameItem endsBelow clashes fateOf staying merged mergedWith placed inserted firstClash inside holds pairsFrom firstTouching canonicalVerdict firstFalling ascendingVerdict countUp positionsOf beBytes holdsPosition someHolds covered firstFault isIn keep missing reportOf
 rows-hold = refl

@@ -10,7 +10,7 @@ use lib.ListN.{length, getD}
 use borrow.Author.Tests.{le-ltb, ltb-true}
 use Rattle.intervals.specs.Intervals.{Interval, holds, piece}
 use Rattle.intervals.proofs.Laws.{canonical-unique}
-use Rattle.query_item.specs.Items.{itemAt, itemsFrom}
+use Rattle.query_item.specs.Items.{itemAt, itemsFrom, flatAll}
 use Rattle.item_check.specs.Checks.{Answer, answered, refused, accepted, poolVerdict, shapeVerdict, andThen, itemsOf}
 use Rattle.item_check.proofs.Laws.{accepts}
 use Rattle.pairs_sort.specs.Pairs.{joinedFrom, joined, pairs}
@@ -22,7 +22,7 @@ use Rattle.position_query.specs.Covered.{firstFault, queryVerdict, FromQueryIte
 use Rattle.position_query.specs.Inner.{ranges}
 use Rattle.position_query.proofs.Keys.{Bytes}
 use Rattle.position_query.proofs.Ranges.{ranges-covered, ranges-needed}
-use Rattle.rows.specs.Rows.{listOf, full, logKeys, logItems}
+use Rattle.rows.specs.Rows.{full, logKeys, logItems}
 
 -- ---- a pool of bytes
 
@@ -71,22 +71,22 @@ module _ (pool ws : List ℕ) (count : ℕ) (B : Bytes pool) (few : count ≤ la
 
 module _ (old new : List ℕ) (r : Answer ℕ) where
   -- P9: count 100: 2..8
-  pub p9-hundred : FromQueryItems logKeys (listOf logItems) 100 old new r → 6 ≤ length old → (r ≡ answered 1) × (pairs new 1 ≡ (2, 8) ∷ [])
-  unfolding allSmall itemAt itemsFrom firstFault be piece ranges joinedFrom
+  pub p9-hundred : FromQueryItems logKeys (flatAll logItems) 100 old new r → 6 ≤ length old → (r ≡ answered 1) × (pairs new 1 ≡ (2, 8) ∷ [])
+  unfolding allSmall itemAt itemsFrom flatAll firstFault be piece ranges joinedFrom
   p9-hundred F room =
-      written logKeys (listOf logItems) 100 (bytes-of logKeys refl) (omega arith) refl ((2, 5) ∷ (5, 6) ∷ (5, 8) ∷ []) ((2, 8) ∷ []) refl
+      written logKeys (flatAll logItems) 100 (bytes-of logKeys refl) (omega arith) refl ((2, 5) ∷ (5, 6) ∷ (5, 8) ∷ []) ((2, 8) ∷ []) refl
       (omega arith, (omega arith, (omega arith, tt))) refl old new r F room
 
   -- P9: count 6: 2..6
-  pub p9-six : FromQueryItems logKeys (listOf logItems) 6 old new r → 6 ≤ length old → (r ≡ answered 1) × (pairs new 1 ≡ (2, 6) ∷ [])
-  unfolding allSmall itemAt itemsFrom firstFault be piece ranges joinedFrom
+  pub p9-six : FromQueryItems logKeys (flatAll logItems) 6 old new r → 6 ≤ length old → (r ≡ answered 1) × (pairs new 1 ≡ (2, 6) ∷ [])
+  unfolding allSmall itemAt itemsFrom flatAll firstFault be piece ranges joinedFrom
   p9-six F room =
-      written logKeys (listOf logItems) 6 (bytes-of logKeys refl) (omega arith) refl ((2, 5) ∷ (5, 6) ∷ (5, 6) ∷ []) ((2, 6) ∷ []) refl
+      written logKeys (flatAll logItems) 6 (bytes-of logKeys refl) (omega arith) refl ((2, 5) ∷ (5, 6) ∷ (5, 6) ∷ []) ((2, 6) ∷ []) refl
       (omega arith, (omega arith, (omega arith, tt))) refl old new r F room
 
   -- P10: 0..MAX
-  pub p10 : FromQueryItems [] (listOf (full ∷ [])) lastWord old new r → 2 ≤ length old → (r ≡ answered 1) × (pairs new 1 ≡ (0, lastWord) ∷ [])
-  unfolding allSmall itemAt itemsFrom firstFault be piece ranges joinedFrom
+  pub p10 : FromQueryItems [] (flatAll (full ∷ [])) lastWord old new r → 2 ≤ length old → (r ≡ answered 1) × (pairs new 1 ≡ (0, lastWord) ∷ [])
+  unfolding allSmall itemAt itemsFrom flatAll firstFault be piece ranges joinedFrom
   p10 F room =
-      written [] (listOf (full ∷ [])) lastWord (bytes-of [] refl) (omega arith) refl ((0, lastWord) ∷ []) ((0, lastWord) ∷ []) refl
+      written [] (flatAll (full ∷ [])) lastWord (bytes-of [] refl) (omega arith) refl ((0, lastWord) ∷ []) ((0, lastWord) ∷ []) refl
       (omega arith, tt) refl old new r F room

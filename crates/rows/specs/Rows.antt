@@ -14,7 +14,7 @@ use Rattle.query_item.specs.declared.KeyAt.{KeyAt}
 use Rattle.query_item.specs.declared.ItemWords.{ItemWords}
 use Rattle.query_item.specs.declared.QueryItem.{QueryItem}
 use Rattle.query_item.specs.declared.MaybeItem.{MaybeItem}
-use Rattle.query_item.specs.Items.{keyAt, absent, itemWords, wordsOf, flat}
+use Rattle.query_item.specs.Items.{keyAt, absent, itemWords, wordsOf, flatAll}
 use Rattle.query_item.specs.Boundaries.{boundary}
 use Rattle.item_check.specs.Checks.{Answer, answered, refused, Verdict, itemsOf}
 use Rattle.intersect_many.specs.declared.ManyCounts.{ManyCounts}
@@ -61,10 +61,6 @@ full = itemWords 3 0 absent absent
 abbrev fromEmpty : ItemWords
 fromEmpty = itemWords 4 0 absent absent
 
-abbrev pub listOf : List ItemWords → List ℕ
-listOf [] = []
-listOf (it ∷ its) = flat it ++ listOf its
-
 -- ---- the calls' definitions, as results
 
 abbrev itemsShown : List ℕ → List QueryItem → List Shown
@@ -84,7 +80,7 @@ pairOf ours theirs = pairResult digits (pairAnswer digits ours theirs)
 
 -- three outputs with room for three items
 abbrev room : List ℕ
-room = listOf (full ∷ full ∷ full ∷ [])
+room = flatAll (full ∷ full ∷ full ∷ [])
 
 abbrev listResult : List ℕ → List ℕ → List ℕ → Answer ManyCounts → Result
 listResult pool ours theirs (answered c) =
@@ -92,7 +88,7 @@ listResult pool ours theirs (answered c) =
 listResult pool ours theirs (refused number side index) = refusal number side index
 
 abbrev listsOf : List ItemWords → List ItemWords → Result
-listsOf ours theirs = listResult digits (listOf ours) (listOf theirs) (manyAnswer digits (listOf ours) (listOf theirs) room room room)
+listsOf ours theirs = listResult digits (flatAll ours) (flatAll theirs) (manyAnswer digits (flatAll ours) (flatAll theirs) room room room)
 
 -- the positions that a query covers, among those that are asked, where the checks of its items accept it
 abbrev queryResult : List ℕ → Verdict → Result
@@ -101,7 +97,7 @@ queryResult P (refused number side index) = refusal number side index
 
 abbrev coveredOf : List ℕ → List ℕ → List ItemWords → ℕ → Result
 coveredOf asked pool its count =
-    queryResult (keep (covered pool (itemsOf (listOf its)) count) asked) (queryVerdict pool (listOf its))
+    queryResult (keep (covered pool (itemsOf (flatAll its)) count) asked) (queryVerdict pool (flatAll its))
 
 abbrev containsResult : Answer Bool → Result
 containsResult (answered b) = yesOrNo b
@@ -118,7 +114,7 @@ insertResult after (refused number side index) = refusal number side index
 
 abbrev insertOf : List ItemWords → ItemWords → Result
 insertOf its new =
-    insertResult (listAfter digits (listOf its ++ room) (length its) new) (insertAnswer digits (listOf its ++ room) (length its) new)
+    insertResult (listAfter digits (flatAll its ++ room) (length its) new) (insertAnswer digits (flatAll its ++ room) (length its) new)
 
 -- what an item shows: code, wrapper, key bytes
 abbrev key : ℕ → Shown
