@@ -2,7 +2,8 @@
 use mathlib.Core.Path.{_≡_, refl}
 use mathlib.Core.List.{[], _∷_}
 use Rattle.position_mismatch.specs.Reports.{reportOf}
-use Rattle.position_describe.specs.Text.{digits, firstPart, laterNumbers, numbers, textOf}
+use Rattle.lent_text.specs.Text.{digits}
+use Rattle.position_describe.specs.Text.{firstPart, laterNumbers, numbers, textOf}
 
 -- "2 positions: [7, 10]"
 all-shown : textOf (reportOf (7 ∷ 10 ∷ [])) ≡ 50 ∷ 32 ∷ 112 ∷ 111 ∷ 115 ∷ 105 ∷ 116 ∷ 105 ∷ 111 ∷ 110 ∷ 115 ∷ 58 ∷ 32 ∷ 91 ∷ 55 ∷ 44 ∷ 32 ∷ 49 ∷ 48 ∷ 93 ∷ []

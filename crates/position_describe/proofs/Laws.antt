@@ -1,4 +1,4 @@
--- That answers are told apart, decimal digits, how long the text is, and bytes stored one after another. Assumes nothing.
+-- That answers are told apart, how long the text is, and its examples stored one after another. Assumes nothing.
 use Prim.Native.Nat.{ℕ, zero, suc, _+_, _-_, _*_, _/_, _%_, _^_, _≤_, _<_}
 use mathlib.Core.Path.{_≡_, refl, sym, ap, _∙_}
 use mathlib.Core.Bool.{Bool, true, false}
@@ -15,8 +15,9 @@ use Rattle.position_mismatch.specs.declared.PositionMismatch.{PositionMismatch}
 use Rattle.position_mismatch.specs.Reports.{mostReported}
 use Rattle.position_describe.specs.declared.Described.{Described}
 use Rattle.position_describe.specs.declared.Described.the-variants.{Bytes, Refused}
-use Rattle.position_describe.specs.Text.{digits, decimal, positionsWord, firstPart, laterNumbers, numbers, numbersOf, textOf, mostText, describedOf}
-use Rattle.position_describe.specs.Stored.{stored}
+use Rattle.position_describe.specs.Text.{positionsWord, firstPart, laterNumbers, numbers, numbersOf, textOf, mostText, describedOf}
+use Rattle.lent_text.specs.Text.{decimal, stored}
+use Rattle.lent_text.proofs.Laws.{decimal-few, decimal-two, stored-append, stored-none, stored-then}
 
 -- ---- answers are told apart
 
@@ -32,49 +33,6 @@ described-apart (Refused r) (Refused s) e =
     let d : r .side ≡ s .side = cc in
     let j : r .index ≡ s .index = cc in
     λ i. Refused (record { number = n i; side = d i; index = j i })
-
--- ---- digits
-
-digits-one : (k n : ℕ) → n < 10 → digits (suc k) n ≡ (48 + n) ∷ []
-unfolding digits
-digits-one k n h = rw (lt-ltb n 10 h)
-
-digits-many : (k n : ℕ) → 10 ≤ n → digits (suc k) n ≡ digits k (n / 10) ++ (48 + n % 10) ∷ []
-unfolding digits
-digits-many k n h = rw (le-ltb n 10 h)
-
--- more places than are needed change nothing
-digits-same : (k n : ℕ) → n < 10 ^ suc k → digits (suc (suc k)) n ≡ digits (suc k) n
-digits-same zero n h = digits-one 1 n (omega (arith, pow-suc 10 0, h)) ∙ sym (digits-one 0 n (omega (arith, pow-suc 10 0, h)))
-digits-same (suc k) n h = elim (decLt n 10) [
-  | yes l ↦ digits-one (suc (suc k)) n l ∙ sym (digits-one (suc k) n l)
-  | no l ↦ rw (digits-many (suc (suc k)) n (omega arith), digits-many (suc k) n (omega arith), digits-same k (n / 10) (omega (arith, pow-suc 10 (suc k), h)))
-]
-
-pub decimal-one : (n : ℕ) → n < 10 → decimal n ≡ (48 + n) ∷ []
-decimal-one n h = digits-one 19 n h
-
-pub decimal-many : (n : ℕ) → 10 ≤ n → n < 18446744073709551616 → decimal n ≡ decimal (n / 10) ++ (48 + n % 10) ∷ []
-decimal-many n h l = digits-many 19 n h ∙ ap (λ (d : List ℕ). d ++ (48 + n % 10) ∷ []) (sym (digits-same 18 (n / 10) (small (n / 10) (omega arith))))
-  where
-    small : (m : ℕ) → m < 10000000000000000000 → m < 10 ^ 19
-    small m h = h
-
-digits-few : (k n : ℕ) → length (digits k n) ≤ k
-digits-few zero n = unfold digits in omega arith
-digits-few (suc k) n = elim (decLt n 10) [
-  | yes l ↦ rw (digits-one k n l) (omega arith)
-  | no l ↦ rw (digits-many k n (omega arith), length-append (digits k (n / 10)) ((48 + n % 10) ∷ [])) (omega (arith, digits-few k (n / 10)))
-]
-
-pub decimal-few : (n : ℕ) → length (decimal n) ≤ 20
-decimal-few n = digits-few 20 n
-
-decimal-two : (n : ℕ) → n < 100 → length (decimal n) ≤ 2
-decimal-two n h = elim (decLt n 10) [
-  | yes l ↦ rw (digits-one 19 n l) (omega arith)
-  | no l ↦ rw (digits-many 19 n (omega arith), digits-one 18 (n / 10) (omega arith)) (omega arith)
-]
 
 -- ---- how long the text is
 
@@ -118,42 +76,7 @@ text-most report h =
       examples-few report h,
     )
 
--- ---- bytes stored
-
-sets-append : (xs ys l : List ℕ) (at : ℕ) → sets (sets l at xs) (at + length xs) ys ≡ sets l at (xs ++ ys)
-sets-append [] ys l at = let q : at + 0 ≡ at = omega arith in rw q
-sets-append (x ∷ xs) ys l at = let q : at + suc (length xs) ≡ suc at + length xs = omega arith in rw q (sets-append xs ys (set l at x) (suc at))
-
-pub stored-append : (w : Bool) (l : List ℕ) (at : ℕ) (xs ys : List ℕ) → stored w (stored w l at xs) (at + length xs) ys ≡ stored w l at (xs ++ ys)
-unfolding stored
-stored-append true l at xs ys = sets-append xs ys l at
-stored-append false l at xs ys = refl
-
-pub stored-none : (w : Bool) (l : List ℕ) (at : ℕ) → stored w l at [] ≡ l
-unfolding stored
-stored-none true l at = refl
-stored-none false l at = refl
-
--- a text after another: what both have stored, and where the next stands
-pub stored-then : (w : Bool) (l m o : List ℕ) (at b c : ℕ) (xs ys : List ℕ) → m ≡ stored w l at xs → b ≡ at + length xs → o ≡ stored w m b ys → c ≡ b + length ys
-    → (c ≡ at + length (xs ++ ys)) × (o ≡ stored w l at (xs ++ ys))
-stored-then w l m o at b c xs ys is-m is-b is-o is-c =
-    (omega (arith, length-append xs ys), is-o ∙ rw (is-m, is-b) (stored-append w l at xs ys))
-
-pub stored-whole : (l text : List ℕ) → length text ≤ length l → stored true l 0 text ≡ text ++ drop (length text) l
-unfolding stored
-stored-whole l text h = let z : 0 + length text ≡ length text = omega arith in sets-eq text l 0 (omega arith) ∙ rw z
-
--- ---- turns
-
-pub text-turn : (w : Bool) (l m text : List ℕ) (at i : ℕ) → i < length text → m ≡ stored w l (at + i) (getD text i 0 ∷ [])
-    → stored w m (at + (i + 1)) (drop (i + 1) text) ≡ stored w l (at + i) (drop i text)
-text-turn w l m text at i h is =
-    let q : at + (i + 1) ≡ at + i + 1 = omega arith in
-    rw (is, q, add-one i, drop-cons text i 0 h) (stored-append w l (at + i) (getD text i 0 ∷ []) (drop (suc i) text))
-
-pub text-done : (w : Bool) (l text : List ℕ) (at i : ℕ) → length text ≤ i → stored w l at (drop i text) ≡ l
-text-done w l text at i h = rw (drop-of-length-le text {i = i} h) (stored-none w l at)
+-- ---- the examples
 
 -- what is left of the examples after the first i of n
 abbrev pub leftOf : List ℕ → ℕ → ℕ → List ℕ
@@ -178,9 +101,6 @@ pub numbers-none : (examples : List ℕ) → numbers (take 0 examples) ≡ []
 unfolding numbers
 numbers-none examples = refl
 
-pub text-start : (w : Bool) (l text : List ℕ) (at : ℕ) → stored w l (at + 0) (drop 0 text) ≡ stored w l at text
-text-start w l text at = let q : at + 0 ≡ at = omega arith in rw q
-
 -- a turn over the examples: the place and the bytes with what is left are as they were
 pub left-turn : (w : Bool) (l m examples : List ℕ) (n i to r : ℕ) → i < n → n ≤ length examples
     → r ≡ to + length (44 ∷ 32 ∷ decimal (getD examples i 0)) → m ≡ stored w l to (44 ∷ 32 ∷ decimal (getD examples i 0))
@@ -204,8 +124,3 @@ left-whole w l m o report at to₀ to i some fits h is-to is-m place bytes =
     let there : to ≡ to₀ + length (leftOf e n 1) = omega (arith, ap length none, place) in
     let kept : o ≡ stored w m to₀ (leftOf e n 1) = sym (rw none (stored-none w o to)) ∙ bytes in
     rw (numbers-first e n some fits) (stored-then w l m o at to₀ to (decimal (getD e 0 0)) (leftOf e n 1) is-m is-to kept there)
-
--- counting leaves the bytes as they are
-pub stored-never : (l : List ℕ) (at : ℕ) (text : List ℕ) → stored false l at text ≡ l
-unfolding stored
-stored-never l at text = refl

@@ -1,23 +1,15 @@
 -- The text of a report, and the answer of `describe`. Definitions only. Assumes nothing.
-use Prim.Native.Nat.{ℕ, zero, suc, _+_, _/_, _%_}
+use Prim.Native.Nat.{ℕ}
 use mathlib.Core.Bool.{cond}
 use mathlib.Core.List.{List, [], _∷_, _++_}
 use lib.ListN.{length, take, drop}
 use lib.Dec.{ltb}
+use Rattle.lent_text.specs.Text.{decimal}
 use Rattle.item_check.specs.Checks.{Answer, answered, refused, refusedAs}
 use Rattle.position_mismatch.specs.declared.PositionMismatch.{PositionMismatch}
 use Rattle.position_mismatch.specs.Reports.{mostReported}
 use Rattle.position_describe.specs.declared.Described.{Described}
 use Rattle.position_describe.specs.declared.Described.the-variants.{Bytes, Refused}
-
--- a number in at most k decimal digits, the greatest first
-unfoldable pub digits : ℕ → ℕ → List ℕ
-digits zero n = []
-digits (suc k) n = cond (ltb n 10) ((48 + n) ∷ []) (digits k (n / 10) ++ (48 + n % 10) ∷ [])
-
--- a u64 has at most 20
-abbrev pub decimal : ℕ → List ℕ
-decimal n = digits 20 n
 
 -- " positions"
 abbrev pub positionsWord : List ℕ

@@ -6,9 +6,9 @@ ghost use mathlib.Core.Path.{_≡_};
 ghost use mathlib.Core.List.{_∷_, []};
 ghost use Prim.Native.Nat.{_+_, _≤_, _<_};
 ghost use lib.ListN.{length};
-ghost use Rattle.position_describe.specs.Text.{decimal, firstPart, numbersOf, textOf, describedOf, describeAnswer, describedIn, refusedWith};
+ghost use Rattle.position_describe.specs.Text.{firstPart, numbersOf, textOf, describedOf, describeAnswer, describedIn, refusedWith};
 ghost use Rattle.position_mismatch.specs.Reports.{mostReported};
-ghost use Rattle.position_describe.specs.Stored.{stored};
+ghost use Rattle.lent_text.specs.Text.{decimal, stored};
 use item_check::Refusal;
 use position_mismatch::PositionMismatch;
 
@@ -99,46 +99,19 @@ fn put_later(out: &mut [u8], at: usize, p: u64, write: bool) -> usize
     put_number(out, b, p, write)
 }
 
-// A number's decimal digits: those of a tenth of it, then the last.
+// The place after a number's decimal digits.
 fn put_number(out: &mut [u8], at: usize, n: u64, write: bool) -> usize
     requires { ⌜ at ≤ 2000 ⌝ }
     ensures { λ r. ⌜ (r ≡ at + length (decimal n)) × (now (out .exit) ≡ stored write (now (out .entry)) at (decimal n)) ⌝ }
 {
-    if n < 10 {
-        put(out, at, digit(n), write);
-        return at + 1;
-    }
-    let k = put_number(out, at, n / 10, write);
-    put(out, k, digit(n % 10), write);
-    k + 1
+    at + lent_text::put_number(out, at, n, write)
 }
 
-fn digit(d: u64) -> u8
-    requires { ⌜ d < 10 ⌝ }
-    ensures { λ r. ⌜ r ≡ 48 + d ⌝ }
-{
-    (48 + d) as u8
-}
-
+// The place after a text.
 fn put_text(out: &mut [u8], at: usize, text: &[u8], write: bool) -> usize
     requires { ⌜ (at ≤ 2000) × (length (now text) ≤ 100) ⌝ }
     ensures { λ r. ⌜ (r ≡ at + length (now (text .entry))) × (now (out .exit) ≡ stored write (now (out .entry)) at (now (text .entry))) ⌝ }
 {
-    let mut i: usize = 0;
-    while i < text.len() {
-        put(out, at + i, text[i], write);
-        i += 1;
-    }
+    lent_text::put_text(out, at, text, write);
     at + text.len()
-}
-
-// One byte, where it is to be written and there is room.
-fn put(out: &mut [u8], at: usize, byte: u8, write: bool)
-    ensures { λ _. ⌜ now (out .exit) ≡ stored write (now (out .entry)) at (byte ∷ []) ⌝ }
-{
-    if write {
-        if at < out.len() {
-            out[at] = byte;
-        }
-    }
 }

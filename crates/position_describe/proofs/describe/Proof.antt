@@ -7,7 +7,7 @@ use denote.Ref.{now}
 use borrow.Author.Tests.{lt-ltb, le-ltb}
 use Rattle.position_mismatch.specs.Reports.{mostReported}
 use Rattle.position_describe.specs.Text.{textOf}
-use Rattle.position_describe.proofs.Laws.{stored-never, stored-whole}
+use Rattle.lent_text.proofs.Laws.{stored-never, stored-whole}
 use borrow.Author.Needs.{needs}
 use Rattle.position_describe.proofs.describe.Statement.{statement}
 use Rattle.position_describe.proofs.describe.Tie as tie

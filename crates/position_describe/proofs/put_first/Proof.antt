@@ -3,8 +3,9 @@ use mathlib.Core.Path.{sym}
 use native.Mathlib.Omega.{arith}
 use denote.Ref.{now}
 use borrow.Author.Tests.{lt-ltb, le-ltb}
-use Rattle.position_describe.specs.Text.{decimal, firstWord, firstPart}
-use Rattle.position_describe.proofs.Laws.{stored-then, stored-none}
+use Rattle.lent_text.specs.Text.{decimal}
+use Rattle.position_describe.specs.Text.{firstWord, firstPart}
+use Rattle.lent_text.proofs.Laws.{stored-then, stored-none}
 use borrow.Author.Needs.{needs}
 use Rattle.position_describe.proofs.put_first.Statement.{statement}
 use Rattle.position_describe.proofs.put_first.Tie as tie

@@ -1,8 +1,8 @@
 -- `put_later` meets its contract. Assumes nothing.
 use mathlib.Core.List.{_∷_, []}
 use denote.Ref.{now}
-use Rattle.position_describe.specs.Text.{decimal}
-use Rattle.position_describe.proofs.Laws.{stored-then}
+use Rattle.lent_text.specs.Text.{decimal}
+use Rattle.lent_text.proofs.Laws.{stored-then}
 use borrow.Author.Needs.{needs}
 use Rattle.position_describe.proofs.put_later.Statement.{statement}
 use Rattle.position_describe.proofs.put_later.Tie as tie

@@ -6,8 +6,9 @@ use native.Mathlib.Omega.{arith}
 use lib.ListN.{length, getD}
 use denote.Ref.{now}
 use Rattle.position_mismatch.specs.Reports.{mostReported}
-use Rattle.position_describe.specs.Stored.{stored}
-use Rattle.position_describe.proofs.Laws.{decimal-few, numbers-none, stored-none, leftOf, left-turn, left-whole}
+use Rattle.lent_text.specs.Text.{stored}
+use Rattle.lent_text.proofs.Laws.{decimal-few, stored-none}
+use Rattle.position_describe.proofs.Laws.{numbers-none, leftOf, left-turn, left-whole}
 use borrow.Author.Needs.{needs}
 use Rattle.position_describe.proofs.put_numbers.Statement.{statement}
 use Rattle.position_describe.proofs.put_numbers.Tie as tie

@@ -2,8 +2,10 @@
 use mathlib.Core.List.{_∷_, [], _++_}
 use native.Mathlib.Omega.{arith}
 use denote.Ref.{now}
-use Rattle.position_describe.specs.Text.{decimal, positionsWord, firstPart, numbersOf}
-use Rattle.position_describe.proofs.Laws.{decimal-few, first-few, examples-few, stored-then}
+use Rattle.lent_text.specs.Text.{decimal}
+use Rattle.position_describe.specs.Text.{positionsWord, firstPart, numbersOf}
+use Rattle.lent_text.proofs.Laws.{decimal-few, stored-then}
+use Rattle.position_describe.proofs.Laws.{first-few, examples-few}
 use borrow.Author.Needs.{needs}
 use Rattle.position_describe.proofs.put_report.Statement.{statement}
 use Rattle.position_describe.proofs.put_report.Tie as tie

@@ -1,15 +1,15 @@
--- `put_text` meets its contract. The invariant: storing what is left of the text gives what storing the whole gives. The measure is how many bytes
+-- `lent_text::put_text` meets its contract. The invariant: storing what is left of the text gives what storing the whole gives. The measure is how many bytes
 -- are left. Assumes nothing.
 use Prim.Native.Nat.{_+_, _-_, _≤_}
 use mathlib.Core.Path.{_≡_, refl, sym, _∙_}
 use native.Mathlib.Omega.{arith}
 use lib.ListN.{length, drop}
 use denote.Ref.{now}
-use Rattle.position_describe.specs.Stored.{stored}
-use Rattle.position_describe.proofs.Laws.{text-start, text-turn, text-done}
+use Rattle.lent_text.specs.Text.{stored}
+use Rattle.lent_text.proofs.Laws.{text-start, text-turn, text-done}
 use borrow.Author.Needs.{needs}
-use Rattle.position_describe.proofs.put_text.Statement.{statement}
-use Rattle.position_describe.proofs.put_text.Tie as tie
+use Rattle.lent_text.proofs.put_text.Statement.{statement}
+use Rattle.lent_text.proofs.put_text.Tie as tie
 
 abbrev Inv-loop : tie.InvT-loop
 Inv-loop out₀ at text write i₀ out i =
@@ -25,7 +25,7 @@ loop-again : tie.Need-loop-again Inv-loop μ-loop
 loop-again c =
     let l = c .before .before .before .before .before .before .loop in
     let a = c .before .before .before .before .before .before .before .before .before .args in
-    let p = c .before .before .put in
+    let p = c .before .before .put-past in
     (omega arith, p .kept .0 ∙ l .inv .1, text-turn (a .write) (l .out) (p .last .0) (now (a .text)) (a .at) (l .i) (c .before .before .before .before .before .loop-test .taken) (p .ensures) ∙ l .inv .2)
 
 same-length : tie.Need-same-length Inv-loop μ-loop
@@ -35,7 +35,7 @@ returns : tie.Need-returns Inv-loop μ-loop
 returns c =
     let l = c .before .loop in
     let a = c .before .before .before .before .args in
-    (refl, sym (text-done (a .write) (l .out) (now (a .text)) (a .at + l .i) (l .i) (c .loop-test .left)) ∙ l .inv .2)
+    sym (text-done (a .write) (l .out) (now (a .text)) (a .at + l .i) (l .i) (c .loop-test .left)) ∙ l .inv .2
 
 pub put-text-spec : {M : Type 1} → statement M
 put-text-spec =
@@ -45,11 +45,9 @@ put-text-spec =
     μ-loop
     loop-holds
     (λ c. search needs)
-    (λ c. search needs)
     (λ c κs. search needs)
     (λ c. search needs)
     (λ c. search needs)
     loop-again
-    (λ c. search needs)
     same-length
     returns)

@@ -1,22 +1,22 @@
 -- The proof of the cycle of calls {put_number}: the digits of a tenth, then the last. The measure is the number. Assumes nothing.
-use Prim.Native.Nat.{_+_, _/_}
+use Prim.Native.Nat.{ℕ, _+_, _/_, _<_}
 use mathlib.Core.Path.{refl, subst}
 use mathlib.Core.List.{_∷_, []}
 use native.Mathlib.Omega.{arith}
 use denote.Ref.{now}
-use Rattle.position_describe.specs.Text.{decimal}
-use Rattle.position_describe.proofs.Laws.{decimal-one, decimal-many, decimal-few, stored-then}
+use Rattle.lent_text.specs.Text.{decimal}
+use Rattle.lent_text.proofs.Laws.{decimal-one, decimal-many, decimal-few, stored-next}
 use borrow.Author.Needs.{needs}
-use Prim.Native.Nat.{ℕ, _<_}
 use borrow.Fn.Kinds.{In}
 use borrow.Fn.PlainCycle.{Measures, is, falls, and}
-use Rattle.position_describe.proofs.put_number.Reads as put-number
-use Rattle.position_describe.proofs.put_number.Kinds as put-number-kinds
-use Rattle.position_describe.proofs.+put_number.Lts-put_number as put-number-lts
-use Rattle.position_describe.proofs.digit.Reads as digit-reads
-use Rattle.position_describe.proofs.put.Reads as put-reads
-use Rattle.position_describe.proofs.+put_number.{statement}
-use Rattle.position_describe.proofs.+put_number.Tie.{close}
+use Rattle.lent_text.proofs.put_number.Reads as put-number
+use Rattle.lent_text.proofs.put_number.Kinds as put-number-kinds
+use Rattle.lent_text.proofs.+put_number.Lts-put_number as put-number-lts
+use Rattle.lent_text.proofs.digit.Reads as digit-reads
+use Rattle.lent_text.proofs.put.Reads as put-reads
+use Rattle.lent_text.proofs.put_past.Reads as put-past-reads
+use Rattle.lent_text.proofs.+put_number.{statement}
+use Rattle.lent_text.proofs.+put_number.Tie.{close}
 
 abbrev μ-put-number : Measures 1 put-number-kinds.ps ℕ
 μ-put-number κs a = a .1 .1 .0
@@ -29,7 +29,6 @@ abbrev put-number-below : ℕ → In 1 put-number-kinds.ps
 put-number-below t =
     and 1 put-number-kinds.ps (falls 1 put-number-kinds.ps _<_ μ-put-number t) put-number.Pre
 
--- src/lib.rt:105:22
 put-number-digit-requires : (t : ℕ) → put-number-lts.Need-digit-requires (
   digit-reads.Asked,
   digit-reads.Learnt,
@@ -37,10 +36,11 @@ put-number-digit-requires : (t : ℕ) → put-number-lts.Need-digit-requires (
   put-reads.Learnt,
   put-number-below t,
   put-number.Post,
+  put-past-reads.Asked,
+  put-past-reads.Learnt,
 ) (put-number-at t) put-number.Post
 put-number-digit-requires t c κs = search needs
 
--- src/lib.rt:105:9
 put-number-put-requires : (t : ℕ) → put-number-lts.Need-put-requires (
   digit-reads.Asked,
   digit-reads.Learnt,
@@ -48,21 +48,11 @@ put-number-put-requires : (t : ℕ) → put-number-lts.Need-put-requires (
   put-reads.Learnt,
   put-number-below t,
   put-number.Post,
+  put-past-reads.Asked,
+  put-past-reads.Learnt,
 ) (put-number-at t) put-number.Post
 put-number-put-requires t c κs = search needs
 
--- src/lib.rt:106:16
-put-number-add-result : (t : ℕ) → put-number-lts.Need-add-result (
-  digit-reads.Asked,
-  digit-reads.Learnt,
-  put-reads.Asked,
-  put-reads.Learnt,
-  put-number-below t,
-  put-number.Post,
-) (put-number-at t) put-number.Post
-put-number-add-result t c = search needs
-
--- src/lib.rt:106:9
 put-number-same-length : (t : ℕ) → put-number-lts.Need-same-length (
   digit-reads.Asked,
   digit-reads.Learnt,
@@ -70,10 +60,11 @@ put-number-same-length : (t : ℕ) → put-number-lts.Need-same-length (
   put-reads.Learnt,
   put-number-below t,
   put-number.Post,
+  put-past-reads.Asked,
+  put-past-reads.Learnt,
 ) (put-number-at t) put-number.Post
 put-number-same-length t c = search needs
 
--- src/lib.rt:106:9
 put-number-returns : (t : ℕ) → put-number-lts.Need-returns (
   digit-reads.Asked,
   digit-reads.Learnt,
@@ -81,12 +72,12 @@ put-number-returns : (t : ℕ) → put-number-lts.Need-returns (
   put-reads.Learnt,
   put-number-below t,
   put-number.Post,
+  put-past-reads.Asked,
+  put-past-reads.Learnt,
 ) (put-number-at t) put-number.Post
 put-number-returns t c =
-    let a = c .before .before .before .before .before .before .before .args in
-    rw (decimal-one (a .n) (c .before .before .before .before .before .if1 .taken), ← c .before .before .before .digit .ensures) (refl, c .before .before .put .ensures)
+    rw (decimal-one (c .before .before .before .before .before .before .before .args .n) (c .before .before .before .before .before .if1 .taken), ← c .before .before .before .digit .ensures) (refl, c .before .before .put .ensures)
 
--- src/lib.rt:108:9
 put-number-put-number-requires : (t : ℕ) → put-number-lts.Need-put-number-requires (
   digit-reads.Asked,
   digit-reads.Learnt,
@@ -94,10 +85,11 @@ put-number-put-number-requires : (t : ℕ) → put-number-lts.Need-put-number-re
   put-reads.Learnt,
   put-number-below t,
   put-number.Post,
+  put-past-reads.Asked,
+  put-past-reads.Learnt,
 ) (put-number-at t) put-number.Post
-put-number-put-number-requires t c κs = (subst (λ (j : ℕ). c .before .before .before .args .n / 10 < j) (c .before .before .before .pre .0) (omega arith), c .before .before .before .pre .1)
+put-number-put-number-requires t c κs = (subst (λ (j : ℕ). c .before .before .before .args .n / 10 < j) (c .before .before .before .pre .0) (omega arith), tt)
 
--- src/lib.rt:109:17
 put-number-digit-requires-2 : (t : ℕ) → put-number-lts.Need-digit-requires-2 (
   digit-reads.Asked,
   digit-reads.Learnt,
@@ -105,32 +97,35 @@ put-number-digit-requires-2 : (t : ℕ) → put-number-lts.Need-digit-requires-2
   put-reads.Learnt,
   put-number-below t,
   put-number.Post,
+  put-past-reads.Asked,
+  put-past-reads.Learnt,
 ) (put-number-at t) put-number.Post
 put-number-digit-requires-2 t c κs = search needs
 
--- src/lib.rt:109:5
-put-number-put-requires-2 : (t : ℕ) → put-number-lts.Need-put-requires-2 (
+put-number-put-past-requires : (t : ℕ) → put-number-lts.Need-put-past-requires (
   digit-reads.Asked,
   digit-reads.Learnt,
   put-reads.Asked,
   put-reads.Learnt,
   put-number-below t,
   put-number.Post,
+  put-past-reads.Asked,
+  put-past-reads.Learnt,
 ) (put-number-at t) put-number.Post
-put-number-put-requires-2 t c κs = search needs
+put-number-put-past-requires t c κs = search needs
 
--- src/lib.rt:110:5
-put-number-add-result-2 : (t : ℕ) → put-number-lts.Need-add-result-2 (
+put-number-add-result : (t : ℕ) → put-number-lts.Need-add-result (
   digit-reads.Asked,
   digit-reads.Learnt,
   put-reads.Asked,
   put-reads.Learnt,
   put-number-below t,
   put-number.Post,
+  put-past-reads.Asked,
+  put-past-reads.Learnt,
 ) (put-number-at t) put-number.Post
-put-number-add-result-2 t c = omega (arith, c .before .before .before .before .before .before .before .put-number .ensures .0, decimal-few (c .before .before .before .before .before .before .before .before .before .before .before .args .n / 10), c .before .before .before .before .before .before .before .before .before .before .before .pre .1)
+put-number-add-result t c = omega (arith, c .before .before .before .before .before .before .before .put-number .ensures .0, decimal-few (c .before .before .before .before .before .before .before .before .before .before .before .args .n / 10))
 
--- src/lib.rt:100:1
 put-number-same-length-2 : (t : ℕ) → put-number-lts.Need-same-length-2 (
   digit-reads.Asked,
   digit-reads.Learnt,
@@ -138,10 +133,11 @@ put-number-same-length-2 : (t : ℕ) → put-number-lts.Need-same-length-2 (
   put-reads.Learnt,
   put-number-below t,
   put-number.Post,
+  put-past-reads.Asked,
+  put-past-reads.Learnt,
 ) (put-number-at t) put-number.Post
 put-number-same-length-2 t c = search needs
 
--- src/lib.rt:100:1
 put-number-returns-2 : (t : ℕ) → put-number-lts.Need-returns-2 (
   digit-reads.Asked,
   digit-reads.Learnt,
@@ -149,12 +145,14 @@ put-number-returns-2 : (t : ℕ) → put-number-lts.Need-returns-2 (
   put-reads.Learnt,
   put-number-below t,
   put-number.Post,
+  put-past-reads.Asked,
+  put-past-reads.Learnt,
 ) (put-number-at t) put-number.Post
 put-number-returns-2 t c =
     let a = c .before .before .before .before .before .before .before .before .before .before .before .args in
     let k = c .before .before .before .before .before .before .before .put-number in
     rw (decimal-many (a .n) (c .before .before .before .before .before .before .before .before .before .if1 .left) (omega arith), ← c .before .before .before .digit2 .ensures)
-    (stored-then (a .write) (now (a .out)) (k .last .0) (c .before .before .put2 .last .0) (a .at) (k .result) (k .result + 1) (decimal (a .n / 10)) (c .before .before .before .digit2 .result ∷ []) (k .ensures .1) (k .ensures .0) (c .before .before .put2 .ensures) refl)
+    (stored-next (a .write) (now (a .out)) (k .last .0) (c .before .before .put-past .last .0) (a .at) (k .result) (decimal (a .n / 10)) (c .before .before .before .digit2 .result ∷ []) (k .ensures .1) (k .ensures .0) (c .before .before .put-past .ensures))
 
 pub +put-number-spec : {M : Type 1} → statement M
 +put-number-spec = close μ-put-number λ t. put-number-lts.spec (
@@ -164,17 +162,18 @@ pub +put-number-spec : {M : Type 1} → statement M
   put-reads.Learnt,
   put-number-below t,
   put-number.Post,
+  put-past-reads.Asked,
+  put-past-reads.Learnt,
 )
     (put-number-at t)
     put-number.Post
     (put-number-digit-requires t)
     (put-number-put-requires t)
-    (put-number-add-result t)
     (put-number-same-length t)
     (put-number-returns t)
     (put-number-put-number-requires t)
     (put-number-digit-requires-2 t)
-    (put-number-put-requires-2 t)
-    (put-number-add-result-2 t)
+    (put-number-put-past-requires t)
+    (put-number-add-result t)
     (put-number-same-length-2 t)
     (put-number-returns-2 t)
