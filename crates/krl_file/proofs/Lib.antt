@@ -1,0 +1,5 @@
+pub mod Written
+pub mod Room
+pub mod Listed
+pub mod Laws
+mod Examples
