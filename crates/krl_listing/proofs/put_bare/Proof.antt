@@ -1,0 +1,19 @@
+-- `put_bare` meets its contract. Assumes nothing.
+use Prim.Native.Nat.{_+_}
+use mathlib.Core.Path.{refl}
+use denote.Ref.{now}
+use Rattle.krl_listing.specs.Listing.{lineFeed}
+use Rattle.krl_listing.proofs.Lines.{stored-two}
+use borrow.Author.Needs.{needs}
+use Rattle.krl_listing.proofs.put_bare.Statement.{statement}
+use Rattle.krl_listing.proofs.put_bare.Tie as tie
+
+returns : tie.Need-returns
+returns c =
+    let a = c .before .before .before .before .before .before .before .before .before .before .args in
+    let t = c .before .before .before .before .before .before .put-text in
+    let p = c .before .before .put in
+    stored-two (a .write) (now (a .out)) (t .last .0) (p .last .0) (t .result) (t .result + 1) (now (a .name)) lineFeed (t .ensures .1) (t .ensures .0) (p .ensures) refl
+
+pub put-bare-spec : {M : Type 1} → statement M
+put-bare-spec = tie.close (tie.spec (λ c κs. search needs) (λ c κs. search needs) (λ c. search needs) (λ c. search needs) returns)

@@ -1,0 +1,28 @@
+-- `put_one` meets its contract. Assumes nothing.
+use Prim.Native.Nat.{_+_}
+use mathlib.Core.Path.{refl}
+use denote.Ref.{now}
+use Rattle.krl_listing.specs.Listing.{lineFeed, spacedKey}
+use Rattle.krl_listing.proofs.Lines.{stored-three}
+use borrow.Author.Needs.{needs}
+use Rattle.krl_listing.proofs.put_one.Statement.{statement}
+use Rattle.krl_listing.proofs.put_one.Tie as tie
+
+returns : tie.Need-returns
+returns c =
+    let a = c .before .before .before .before .before .before .before .before .before .before .before .before .before .before .before .args in
+    let t = c .before .before .before .before .before .before .before .before .before .before .put-text in
+    let k = c .before .before .before .before .before .before .put-key in
+    let p = c .before .before .put in
+    stored-three (a .write) (now (a .out)) (t .last .0) (k .last .0) (p .last .0) (t .result) (k .result) (k .result + 1) (now (a .name)) (spacedKey (now (a .pool)) (a .key)) lineFeed (t .ensures .1) (t .ensures .0) (k .ensures .1) (k .ensures .0) (p .ensures) refl
+
+pub put-one-spec : {M : Type 1} → statement M
+put-one-spec =
+    tie.close
+    (tie.spec
+    (λ c κs. search needs)
+    (λ c κs. search needs)
+    (λ c κs. search needs)
+    (λ c. search needs)
+    (λ c. search needs)
+    returns)

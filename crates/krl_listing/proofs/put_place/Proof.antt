@@ -1,0 +1,29 @@
+-- `put_place` meets its contract. Assumes nothing.
+use mathlib.Core.Path.{sym}
+use native.Mathlib.Omega.{arith}
+use denote.Ref.{now}
+use Rattle.krl_listing.specs.Listing.{sideText, placeText, spacedNumber}
+use Rattle.lent_text.proofs.Laws.{stored-none, stored-then}
+use Rattle.krl_listing.proofs.Lines.{side-few}
+use borrow.Author.Needs.{needs}
+use Rattle.krl_listing.proofs.put_place.Statement.{statement}
+use Rattle.krl_listing.proofs.put_place.Tie as tie
+
+returns : tie.Need-returns
+unfolding placeText
+returns c = rw (c .if1 .taken) (omega arith, sym (stored-none (c .before .before .args .write) (now (c .before .before .args .out)) (c .before .before .args .at)))
+
+put-spaced-requires : tie.Need-put-spaced-requires
+put-spaced-requires c κs = omega (arith, c .before .before .before .put-side .ensures .0, side-few (c .before .before .before .before .before .before .before .args .side))
+
+returns-2 : tie.Need-returns-2
+unfolding placeText
+returns-2 c =
+    let a = c .before .before .before .before .before .before .before .before .before .before .args in
+    let s = c .before .before .before .before .before .before .put-side in
+    let n = c .before .before .put-spaced in
+    rw (c .before .before .before .before .before .before .before .before .if1 .left) (stored-then (a .write) (now (a .out)) (s .last .0) (n .last .0) (a .at) (s .result) (n .result) (sideText (a .side)) (spacedNumber (a .index)) (s .ensures .1) (s .ensures .0) (n .ensures .1) (n .ensures .0))
+
+pub put-place-spec : {M : Type 1} → statement M
+put-place-spec =
+    tie.close (tie.spec returns (λ c κs. search needs) put-spaced-requires (λ c. search needs) returns-2)
