@@ -191,7 +191,7 @@ impl Rows {
 }
 
 /// Every item over the keys with each of so many wrappers, upright or not.
-fn wrapped_items(keys: &[[u32; 2]], wrappers: u32) -> Vec<Words> {
+pub fn wrapped_items(keys: &[[u32; 2]], wrappers: u32) -> Vec<Words> {
     let wrapped = |[code, _, a, b, c, d]: Words| {
         (0..wrappers).map(move |wrapper| [code, wrapper, a, b, c, d])
     };

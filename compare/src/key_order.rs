@@ -56,7 +56,7 @@ fn pool(key: &[u8], other: &[u8]) -> Vec<u8> {
 }
 
 /// The Rust orders boundaries: here two inclusive ones, which stand as their keys do.
-fn rust_order_items(a: &[u8], b: &[u8]) -> u64 {
+pub fn rust_order_items(a: &[u8], b: &[u8]) -> u64 {
     let one = RangeSetItem::Inclusive(a.to_vec());
     let two = RangeSetItem::Inclusive(b.to_vec());
     let (smaller, _) = RangeSetItem::order_items(&one, &two, one.cmp(&two));
@@ -68,7 +68,7 @@ fn rust_order_items(a: &[u8], b: &[u8]) -> u64 {
 }
 
 /// Two keys that begin alike: equal, or one a prefix of the other, or going on by themselves.
-fn alike(random: &mut Random) -> (Vec<u8>, Vec<u8>) {
+pub fn alike(random: &mut Random) -> (Vec<u8>, Vec<u8>) {
     let few = random.below(2) == 0;
     let same = random.below(LONGEST + 1);
     let start = bytes(random, same, few);

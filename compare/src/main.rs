@@ -1,5 +1,6 @@
 //! Calls our functions and the Rust's that they rebuild, in one process, and counts where they agree.
 //! `compare short` takes seconds, `compare long` is the whole. Exit status 1 where anything disagrees.
+//! `compare record FOLDER` writes a sample of the Rust's answers, for programs of ours to replay.
 
 // position_intervals.rs finds QueryItem in a crate of this name
 extern crate self as grovedb_merk;
@@ -27,6 +28,7 @@ mod position_calls;
 mod position_differences;
 mod positions;
 mod random;
+mod record;
 mod refusals;
 mod stand_ins;
 mod table;
@@ -38,7 +40,7 @@ use stand_ins::{error, error::Error, hex_to_ascii, proofs, Query};
 include!(concat!(env!("OUT_DIR"), "/grovedb.rs"));
 
 use random::Random;
-use std::{cmp::Ordering, env, process::ExitCode};
+use std::{cmp::Ordering, env, path::Path, process::ExitCode};
 
 const SEED: u64 = 0x46_45_52_4E;
 
@@ -95,11 +97,22 @@ const LONG: Size = Size {
 
 fn main() -> ExitCode {
     let arguments: Vec<String> = env::args().skip(1).collect();
+    if let [mode, folder] = &arguments[..] {
+        if mode == "record" {
+            return match record::run(Path::new(folder)) {
+                Ok(()) => ExitCode::SUCCESS,
+                Err(error) => {
+                    eprintln!("compare: {folder}: {error}");
+                    ExitCode::FAILURE
+                }
+            };
+        }
+    }
     let size = match arguments.join(" ").as_str() {
         "short" => SHORT,
         "long" => LONG,
         _ => {
-            eprintln!("usage: compare short|long");
+            eprintln!("usage: compare short|long|record FOLDER");
             return ExitCode::from(2);
         }
     };

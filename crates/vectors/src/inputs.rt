@@ -1,0 +1,44 @@
+// Inputs of the calls.
+use crate::Cursor;
+use crate::byte;
+use crate::on;
+use crate::short;
+use query_item::ItemWords;
+use query_item::KeyAt;
+use query_item::item::write_item;
+
+// The bytes of an item.
+pub const ITEM_BYTES: usize = 10;
+
+pub fn item(s: &[u8], c: Cursor) -> ItemWords {
+    let start = key_at(s, on(s, c, 2));
+    let end = key_at(s, on(s, c, 6));
+    ItemWords {
+        code: wide(byte(s, c)),
+        wrapper: wide(byte(s, on(s, c, 1))),
+        start,
+        end,
+    }
+}
+
+fn key_at(s: &[u8], c: Cursor) -> KeyAt {
+    KeyAt {
+        offset: short(s, c),
+        length: short(s, on(s, c, 2)),
+    }
+}
+
+// Writes so many items to the front of words, those that have room.
+pub fn fill(s: &[u8], c: Cursor, count: usize, words: &mut [u32]) {
+    let mut from = c;
+    let mut i = 0;
+    while i < count {
+        write_item(words, i, item(s, from));
+        from = on(s, from, ITEM_BYTES);
+        i += 1;
+    }
+}
+
+fn wide(x: u8) -> u32 {
+    x as u32
+}

@@ -1,0 +1,49 @@
+// Replays recorded answers of module 5, by the code of the call: 1 insert_item where no items merge, 2 where some do. The Rust's own answers
+// are those of 1 alone: how items merge is document 01's.
+mod insertion;
+
+use vectors::Case;
+use vectors::Met;
+use vectors::Tally;
+use vectors::answers::nothing_met;
+use vectors::block;
+
+fn main() {
+    let mut buffer = vectors::buffer();
+    let n = io::read_full(0, &mut buffer);
+    replay(&buffer[..n]);
+}
+
+fn replay(s: &[u8]) {
+    let mut at = vectors::first_case();
+    let mut tally = Tally::new();
+    let mut left = vectors::case_count(s);
+    while 0 < left {
+        let case = vectors::case_at(s, at);
+        tally = tally.with(case.listed, replay_case(s, case));
+        at = case.next;
+        left -= 1;
+    }
+    vectors::report(vectors::is_sample(s) & vectors::is_end(s, at), tally);
+}
+
+fn replay_case(s: &[u8], case: Case) -> Met {
+    let inputs = case.inputs;
+    let recorded = case.recorded;
+    let rust = case.rust;
+    meet(
+        case.code,
+        block(s, inputs),
+        block(s, recorded),
+        block(s, rust),
+    )
+}
+
+// A call on the inputs x, held against the recorded answer a and the Rust's.
+fn meet<'a>(code: u8, x: &'a [u8], a: &'a [u8], rust: &'a [u8]) -> Met {
+    match code {
+        1 => insertion::insert_item_met(x, a, rust),
+        2 => insertion::insert_item_met(x, a, rust),
+        _ => nothing_met(),
+    }
+}
