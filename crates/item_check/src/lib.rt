@@ -4,6 +4,9 @@ ghost use mathlib.Core.Path.{_≡_};
 ghost use Rattle.query_item.specs.Items.{itemsFrom};
 ghost use Rattle.query_item.specs.Boundaries.{setAt, upright};
 ghost use Rattle.item_check.specs.Checks.{verdictOf, refused, hasStart, hasEnd, written, malformed, keyOut, outside, itemFault, uprightFault, faultAt, poolVerdict, shapeVerdict, firstBad, strictVerdict, wholeVerdict, listVerdict, singleVerdict, keysVerdict, setVerdict, checkVerdict};
+use item_words::ITEM_SIZE;
+use item_words::item_at;
+use item_words::query_item;
 use query_item::ItemWords;
 use query_item::KeyAt;
 use query_item::RangeSet;
@@ -11,9 +14,6 @@ use query_item::boundary::compare_in;
 use query_item::boundary::is_at_most;
 use query_item::boundary::is_less;
 use query_item::boundary::key_of;
-use query_item::item::ITEM_SIZE;
-use query_item::item::item_at;
-use query_item::item::query_item;
 
 // A refusal: its number, the side (0 ours, 1 theirs), and the index of the item, pair or position.
 pub struct Refusal {
@@ -158,6 +158,10 @@ pub fn upright_fault(pool: &[u8], item: ItemWords) -> u32
     }
     if is_outside(pool, item) {
         return 2;
+    }
+    // a key is upright, whatever its bytes are
+    if item.code == 0 {
+        return 0;
     }
     if is_upright(pool, query_item(item).to_range_set()) {
         return 0;

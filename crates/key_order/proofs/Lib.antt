@@ -2,5 +2,6 @@ pub mod Numbers
 pub mod Line
 pub mod Laws
 pub mod Ranks
+pub mod Words
 pub mod Turns
 mod Examples

@@ -6,13 +6,13 @@ use intersect_many::ManyAnswer;
 use intersect_many::ManyCounts;
 use intersect_many::intersect_many_ordered;
 use item_check::Refusal;
+use item_words::ITEM_SIZE;
 use krl_file::FileAnswer;
 use krl_file::pool_of;
 use krl_file::read_file;
 use krl_listing::Line;
 use krl_listing::listing_line;
 use krl_listing::refusal_line;
-use query_item::item::ITEM_SIZE;
 
 const INPUT: i32 = 0;
 

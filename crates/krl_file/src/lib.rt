@@ -8,11 +8,11 @@ ghost use lib.ListN.{length};
 ghost use Rattle.query_item.specs.Items.{itemSize};
 ghost use Rattle.krl_file.specs.File.{recordSize, mostFile, byteAt, u16At, hasMark, hasVersion, poolLength, oursCount, theirsCount, wholeSize, wellFormed, poolOf, recordAt, recordsFrom, oursOf, theirsOf, laidOver, fileAnswerOf, partsOf, passes, roomAnswer, fileAnswer, written};
 use item_check::Refusal;
+use item_words::ITEM_SIZE;
+use item_words::write_item;
 use query_item::ItemWords;
 use query_item::KeyAt;
 use query_item::boundary::key_bytes;
-use query_item::item::ITEM_SIZE;
-use query_item::item::write_item;
 
 // The pool's length and the two counts.
 pub struct FileParts {

@@ -12,12 +12,12 @@ ghost use Rattle.lent_text.specs.Text.{decimal, stored};
 ghost use Rattle.krl_listing.specs.Listing.{hexDigit, hexByte, hexText, keyText, spacedKey, spacedNumber, bareLine, keyLine, keysLine, itemLine, titleLine, listLines, lineAt, sideText, placeText, refusalLine, lineAnswer, lineIn, lineOf};
 use intersect_many::ManyCounts;
 use item_check::Refusal;
+use item_words::item_at;
+use item_words::query_item;
 use lent_text::put;
 use query_item::KeyAt;
 use query_item::QueryItem;
 use query_item::boundary::key_bytes;
-use query_item::item::item_at;
-use query_item::item::query_item;
 
 // The longest line of items with keys of at most 255 bytes: so many lent bytes are always room enough.
 pub const MAX_LINE: usize = 1044;

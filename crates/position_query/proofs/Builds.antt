@@ -1,8 +1,9 @@
 -- The passes over items: the check of each, how many ranges there are, and the ranges written; a turn of each. Assumes nothing.
-use Prim.Native.Nat.{ℕ, suc, _+_, _-_, _*_, _/_, _≤_, _<_, min}
+use Prim.Native.Nat.{ℕ, zero, suc, _+_, _-_, _*_, _/_, _≤_, _<_, min}
 use mathlib.Core.Path.{_≡_, refl, sym, ap, _∙_}
 use mathlib.Core.Bool.{cond}
 use mathlib.Core.List.{List, [], _++_, append-assoc, append-nil}
+use native.Mathlib.Decide.{decLt}
 use native.Mathlib.Numerals.{add-one}
 use native.Mathlib.Omega.{arith}
 use lib.ListN.{length, drop, length-append}
@@ -18,7 +19,7 @@ use Rattle.pairs_sort.proofs.Laws.{pairs-length, push-length, push-pairs, push-
 use Rattle.position_query.specs.Covered.{positionFault, firstFault, queryVerdict, FromQueryItems}
 use Rattle.position_intervals.specs.Inner.{lastWord}
 use Rattle.position_query.specs.Inner.{clipped, ranges, Wrote, Building}
-use Rattle.position_query.proofs.Keys.{Bytes}
+use Rattle.key_order.proofs.Words.{Bytes}
 use Rattle.position_query.proofs.Ranges.{ranges-covered, ranges-needed}
 
 -- ---- the check
@@ -60,6 +61,20 @@ module _ (pool : List ℕ) (count : ℕ) (ws : List ℕ) (n i : ℕ) where
     pub ranges-none : i < n → e ≤ s → length (rangesLeft i) ≡ length (rangesLeft (i + 1))
     ranges-none h l = rw (ranges-more h, piece-none s e l)
 
+length-piece : (s e : ℕ) → length (piece s e) ≤ 1
+length-piece s e = elim (decLt s e) [
+  | yes h ↦ rw (piece-some s e h) (omega arith)
+  | no h ↦ rw (piece-none s e (omega arith)) (omega arith)
+]
+
+-- no more than there are items
+pub ranges-few : (pool : List ℕ) (count : ℕ) (ws : List ℕ) (n i : ℕ) → length (ranges pool count (itemsFrom ws i n)) ≤ n
+unfolding ranges itemsFrom
+ranges-few pool count ws zero i = omega arith
+ranges-few pool count ws (suc n) i =
+    let a = clipped pool count (itemAt ws i) in
+    omega (arith, length-append (piece (a .0) (a .1)) (ranges pool count (itemsFrom ws (suc i) n)), length-piece (a .0) (a .1), ranges-few pool count ws n (suc i))
+
 -- ---- the ranges written
 
 -- k of the ranges stand as the first pairs, and the others are still to come
@@ -99,28 +114,32 @@ module _ (pool : List ℕ) (count : ℕ) (ws old new : List ℕ) (n k i : ℕ) (
         later = push-kept new k s e v r is-r is-v (2 * length all) fits ∙ W .later;
       }
 
-  pub writing-end : n ≤ i → Wrote all old new
-  writing-end h =
-      let whole : all ≡ pairs new k = W .whole ∙ rw (ranges-end pool count ws n i h, append-nil) in
-      let size : length all ≡ k = ap length whole ∙ pairs-length new k 0 in
-      record { front = ap (λ (m : ℕ). pairs new m) size ∙ sym whole; later = W .later }
+  module _ (h : n ≤ i) where
+    written : all ≡ pairs new k
+    written = W .whole ∙ rw (ranges-end pool count ws n i h, append-nil)
+
+    pub writing-count : k ≡ length all
+    writing-count = sym (ap length written ∙ pairs-length new k 0)
+
+    pub writing-end : Wrote all old new
+    writing-end = record { front = ap (λ (m : ℕ). pairs new m) (sym writing-count) ∙ sym written; later = W .later }
 
 -- ---- what is built
 
-module _ (pool ws : List ℕ) (count : ℕ) (old : List ℕ) (k : ℕ) (is-k : k ≡ length (ranges pool count (itemsOf ws))) where
+module _ (pool ws : List ℕ) (count : ℕ) (old : List ℕ) where
   abbrev whole : List Interval
   whole = ranges pool count (itemsOf ws)
 
-  pub build-short : length old / 2 < k → Building pool ws count old old (refused 6 0 0)
+  pub build-short : length old / 2 < length whole → Building pool ws count old old (refused 6 0 0)
   build-short h = record {
-    verdict = rw (lt-ltb (length old / 2) (length whole) (omega arith));
+    verdict = rw (lt-ltb (length old / 2) (length whole) h);
     written = λ m e. let z : _≡_ {A = ℕ} 0 1 = cc in absurd (omega arith);
     kept = λ n s i e. refl;
   }
 
-  pub build-whole : (mid new : List ℕ) (m : ℕ) → k ≤ length old / 2 → length mid ≡ length old → Wrote whole old mid
+  pub build-whole : (k : ℕ) (mid new : List ℕ) (m : ℕ) → length whole ≤ length old / 2 → k ≡ length whole → length mid ≡ length old → Wrote whole old mid
       → Merged (min k (length mid / 2)) mid new m → Building pool ws count old new (answered m)
-  build-whole mid new m h size W M =
+  build-whole k mid new m h is-k size W M =
       let n : min k (length mid / 2) ≡ length whole = omega arith in
       let R : Merged (length whole) mid new m = rw n at M in record {
         verdict = rw (le-ltb (length old / 2) (length whole) (omega arith));

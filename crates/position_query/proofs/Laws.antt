@@ -17,21 +17,12 @@ use Rattle.item_check.proofs.Laws.{refused-apart}
 use Rattle.pairs_sort.specs.Pairs.{start, finish, pairsFrom, pairs}
 use Rattle.pairs_sort.proofs.Laws.{pairs-length}
 use Rattle.position_intervals.specs.Inner.{lastWord}
-use Rattle.position_query.specs.declared.PositionKey.{PositionKey}
-use Rattle.position_query.specs.declared.PositionKey.the-variants as key
 use Rattle.position_query.specs.declared.Built.{Built}
 use Rattle.position_query.specs.declared.Built.the-variants as built
-use Rattle.position_query.specs.Keys.{positionOf}
 use Rattle.position_query.specs.Covered.{covered, rangesNeeded, builtOf, Covers, FromQueryItems}
 pub use Rattle.position_query.proofs.Ranges.{item-held}
 
 -- ---- answers are told apart
-
-pub position-apart : (r s : PositionKey) → positionOf r ≡ positionOf s → r ≡ s
-position-apart (key.At p) (key.At q) e = let h : p .0 ≡ q .0 = cc in λ i. key.At (record { 0 = h i })
-position-apart (key.At p) key.Refused e = cc
-position-apart key.Refused (key.At q) e = cc
-position-apart key.Refused key.Refused e = refl
 
 pub built-apart : (r s : Built) → builtOf r ≡ builtOf s → r ≡ s
 built-apart (built.Pairs m) (built.Pairs n) e = let h : m ≡ n = cc in ap built.Pairs h

@@ -1,4 +1,3 @@
 pub mod Laws
-pub mod Keys
 pub mod Ranges
 pub mod Builds

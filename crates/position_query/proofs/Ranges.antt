@@ -27,11 +27,13 @@ use Rattle.query_item.specs.Items as table
 use Rattle.query_item.specs.Boundaries.{toRangeSet, rangeOf}
 use Rattle.item_check.specs.Checks.{Answer, answered, refused, accepted, hasStart, hasEnd, malformed, outside, faultAt}
 use Rattle.item_check.proofs.Laws.{accepts}
-use Rattle.position_query.specs.Keys.{be, keySize, positionKey, positionAnswer}
+use Rattle.key_order.specs.Words.{be}
+use Rattle.position_key.specs.Keys.{keySize, positionKey, positionAnswer}
 use Rattle.position_query.specs.Covered.{holdsPosition, someHolds, covered, wrapped, noPosition, badKey, positionFault, firstFault, anyBelow, rangesNeeded}
 use Rattle.position_intervals.specs.Inner.{lastWord}
 use Rattle.position_query.specs.Inner.{afterOf, firstOf, pastOf, bothOf, rangeAnswer, clipTo, clipped, ranges}
-use Rattle.position_query.proofs.Keys.{Bytes, bytes-length, bytes-small, be-says, be-position}
+use Rattle.key_order.proofs.Words.{Bytes, be-says}
+use Rattle.position_key.proofs.Keys.{bytes-length, bytes-small, be-position}
 
 -- ---- keys of a pool
 

@@ -14,7 +14,7 @@ use Rattle.item_check.specs.Checks.{Answer, answered, refused, Verdict, accepte
 use Rattle.pairs_sort.specs.Pairs.{pairs}
 use Rattle.position_query.specs.declared.Built.{Built}
 use Rattle.position_query.specs.declared.Built.the-variants.{Pairs, Refused}
-use Rattle.position_query.specs.Keys.{keySize, positionKey}
+use Rattle.position_key.specs.Keys.{keySize, positionKey}
 
 -- ---- coverage
 

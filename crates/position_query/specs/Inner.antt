@@ -17,7 +17,7 @@ use Rattle.position_intervals.specs.Inner.{lastWord}
 use Rattle.position_query.specs.declared.query.ItemRange.{ItemRange}
 use Rattle.position_query.specs.declared.query.ItemRange.the-variants.{Range, BadKey}
 use Rattle.position_query.specs.declared.query.PositionRange.{PositionRange}
-use Rattle.position_query.specs.Keys.{positionAnswer}
+use Rattle.position_key.specs.Keys.{positionAnswer}
 use Rattle.position_query.specs.Covered.{asVerdict, roomVerdict}
 
 -- ---- the range of a position item, half-open

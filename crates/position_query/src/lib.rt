@@ -1,18 +1,10 @@
-// Module 6 of document 01: from query items to log positions: a position key read, and the positions that items cover, written as half-open
-// intervals. Nothing here grows with the count of rows.
-// Definitions: specs/Keys.antt (position keys), specs/Covered.antt (coverage, the checks of position items, the promise), specs/Inner.antt
-// (what private functions promise). Laws: proofs/Laws.antt; among them that there is one answer.
-pub mod key;
+// Module 6 of document 01: from query items to log positions: the positions that items cover, written as half-open intervals. Nothing here
+// grows with the count of rows.
+// Definitions: specs/Covered.antt (coverage, the checks of position items, the promise), specs/Inner.antt (what private functions promise).
+// Laws: proofs/Laws.antt; among them that there is one answer.
 pub mod query;
 
 use item_check::Refusal;
-use position_intervals::LogPosition;
-
-// What `be_u64` answers: the position, or refusal 7.
-pub enum PositionKey {
-    At(LogPosition),
-    Refused,
-}
 
 // What `from_query_items` answers: how many pairs it has written.
 pub enum Built {

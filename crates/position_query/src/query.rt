@@ -2,34 +2,35 @@
 ghost use mathlib.Core.Path.{_≡_};
 ghost use Prim.Native.Nat.{_*_, _≤_};
 ghost use lib.ListN.{length};
+ghost use lib.Dec.{leb};
 ghost use Rattle.query_item.specs.Items.{bytesOf};
 ghost use Rattle.item_check.specs.Checks.{verdictOf, itemsOf};
-ghost use Rattle.position_query.specs.Keys.{positionOf, positionAnswer};
+ghost use Rattle.position_key.specs.Keys.{positionOf, positionAnswer};
 ghost use Rattle.position_query.specs.Covered.{positionFault, firstFault, queryVerdict, builtOf, FromQueryItems};
 ghost use Rattle.position_query.specs.Inner.{afterOf, firstOf, pastOf, rangeAnswer, itemRangeOf, clipped, rangePair, ranges, Wrote, Building};
 use crate::Built;
-use crate::PositionKey;
-use crate::key::be_u64;
 use item_check::Checked;
 use item_check::Refusal;
 use item_check::check_pool;
 use item_check::check_shape;
 use item_check::item_fault;
 use item_check::refuse;
+use item_words::ITEM_SIZE;
+use item_words::item_at;
+use item_words::query_item;
 use pairs_sort::make_canonical;
 use pairs_sort::push_pair;
 use position_intervals::LAST_WORD;
 use position_intervals::LogPosition;
 use position_intervals::RowCount;
 use position_intervals::smaller;
+use position_key::PositionKey;
+use position_key::be_u64;
 use query_item::ItemWords;
 use query_item::KeyAt;
 use query_item::RangeSet;
 use query_item::RangeSetItem;
 use query_item::boundary::key_bytes;
-use query_item::item::ITEM_SIZE;
-use query_item::item::item_at;
-use query_item::item::query_item;
 
 // The range of an item: from a start on, below an end; or that a key is no position.
 enum ItemRange {
@@ -42,7 +43,8 @@ struct PositionRange {
     end: u64,
 }
 
-// Writes the positions that items cover as canonical pairs, and says how many. The items' ranges are counted before one is written.
+// Writes the positions that items cover as canonical pairs, and says how many. That there is room for the items' ranges is known before one
+// is written.
 pub fn from_query_items(pool: &[u8], items: &[u32], count: RowCount, out: &mut [u64]) -> Built
     ensures { λ r. ⌜ FromQueryItems (now (pool .entry)) (now (items .entry)) (count .0) (now (out .entry)) (now (out .exit)) (builtOf r) ⌝ }
 {
@@ -168,20 +170,29 @@ fn clip(pool: &[u8], item: ItemWords, count: u64) -> PositionRange
 
 // ---- building
 
-// Counts the ranges of accepted items, writes them where there is room, and makes them canonical.
+// Writes the ranges of accepted items where there is room, and makes them canonical.
 fn build(pool: &[u8], items: &[u32], count: u64, out: &mut [u64]) -> Built
     ensures { λ r. ⌜ Building (now (pool .entry)) (now (items .entry)) count (now (out .entry)) (now (out .exit)) (builtOf r) ⌝ }
 {
-    let k = count_ranges(pool, items, count);
-    if out.len() / 2 < k {
+    if !has_room(pool, items, count, out.len() / 2) {
         return Built::Refused(Refusal {
             number: 6,
             side: 0,
             index: 0,
         });
     }
-    write_ranges(pool, items, count, out);
+    let k = write_ranges(pool, items, count, out);
     Built::Pairs(make_canonical(out, k))
+}
+
+// Whether the ranges are no more than the pairs of room. They are counted only where the items are more.
+fn has_room(pool: &[u8], items: &[u32], count: u64, room: usize) -> bool
+    ensures { λ r. ⌜ r ≡ leb (length (ranges (now (pool .entry)) count (itemsOf (now (items .entry))))) room ⌝ }
+{
+    if items.len() / ITEM_SIZE <= room {
+        return true;
+    }
+    count_ranges(pool, items, count) <= room
 }
 
 // How many items have a nonempty clipped range.
@@ -201,9 +212,10 @@ fn count_ranges(pool: &[u8], items: &[u32], count: u64) -> usize
     k
 }
 
-// Writes them as the first pairs.
-fn write_ranges(pool: &[u8], items: &[u32], count: u64, out: &mut [u64])
+// Writes them as the first pairs: how many they are.
+fn write_ranges(pool: &[u8], items: &[u32], count: u64, out: &mut [u64]) -> usize
     requires { ⌜ 2 * length (ranges (now pool) count (itemsOf (now items))) ≤ length (now out) ⌝ }
+    ensures { λ r. ⌜ r ≡ length (ranges (now (pool .entry)) count (itemsOf (now (items .entry)))) ⌝ }
     ensures { λ _. ⌜ Wrote (ranges (now (pool .entry)) count (itemsOf (now (items .entry)))) (now (out .entry)) (now (out .exit)) ⌝ }
 {
     let n = items.len() / ITEM_SIZE;
@@ -214,4 +226,5 @@ fn write_ranges(pool: &[u8], items: &[u32], count: u64, out: &mut [u64])
         k = push_pair(out, k, range.start, range.end);
         i += 1;
     }
+    k
 }

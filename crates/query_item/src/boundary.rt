@@ -1,7 +1,7 @@
 // Boundaries: their order, on a kind beside lent bytes and on parts of a pool, and `invert`.
 ghost use mathlib.Core.Path.{_≡_};
 ghost use Prim.Native.Nat.{_+_, _<_, min};
-ghost use Rattle.key_order.specs.Order.{compareKeys, compareNumbers, thenBy, isLess, isAtMost, isEqual};
+ghost use Rattle.key_order.specs.Order.{compareKeys, thenBy, isLess, isAtMost, isEqual};
 ghost use Rattle.key_order.specs.Boundary.{compareBoundaries};
 ghost use Rattle.query_item.specs.Items.{bytesOf};
 ghost use Rattle.query_item.specs.Boundaries.{boundary, kindOf, keyOf, compareIn, invertKind, withKey, invertOf};
@@ -10,6 +10,7 @@ use crate::BoundaryKind;
 use crate::KeyAt;
 use crate::RangeSetItem;
 use key_order::Ordering;
+use key_order::compare_numbers;
 
 // How a boundary of the kind left at the key a stands to one of the kind right at the key b.
 pub fn compare_boundaries(left: BoundaryKind, a: &[u8], right: BoundaryKind, b: &[u8]) -> Ordering
@@ -43,7 +44,7 @@ pub fn invert(kind: BoundaryKind, is_start: bool) -> BoundaryKind
 }
 
 // Where a kind stands among boundaries of one key, the unbounded ones at the ends.
-fn rung_of(kind: BoundaryKind) -> u32
+fn rung_of(kind: BoundaryKind) -> u64
     ensures { λ r. ⌜ r ≡ rung kind ⌝ }
 {
     match kind {
@@ -55,22 +56,10 @@ fn rung_of(kind: BoundaryKind) -> u32
     }
 }
 
-fn is_bounded(x: u32) -> bool
+fn is_bounded(x: u64) -> bool
     ensures { λ r. ⌜ r ≡ bounded x ⌝ }
 {
     (0 < x) & (x < 4)
-}
-
-fn compare_numbers(m: u32, n: u32) -> Ordering
-    ensures { λ r. ⌜ r ≡ compareNumbers m n ⌝ }
-{
-    if m < n {
-        return Ordering::Less;
-    }
-    if n < m {
-        return Ordering::Greater;
-    }
-    Ordering::Equal
 }
 
 // The first answer, or the second where the first is Equal.

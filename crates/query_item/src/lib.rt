@@ -5,7 +5,6 @@
 // A function marked "inner" is public only because other crates need it. It checks nothing: its definition covers every input.
 pub mod boundary;
 pub mod convert;
-pub mod item;
 
 // A key: a part of the pool.
 pub struct KeyAt {

@@ -4,13 +4,13 @@ use crate::Met;
 use crate::on;
 use crate::part;
 use item_check::Refusal;
+use item_words::item_at;
+use item_words::words_of;
 use query_item::ItemWords;
 use query_item::KeyAt;
 use query_item::MaybeItem;
 use query_item::boundary::is_equal;
 use query_item::boundary::key_bytes;
-use query_item::item::item_at;
-use query_item::item::words_of;
 
 // How far the recorded answer is read, and whether all was the same so far.
 pub struct Held {

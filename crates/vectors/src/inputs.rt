@@ -3,9 +3,9 @@ use crate::Cursor;
 use crate::byte;
 use crate::on;
 use crate::short;
+use item_words::write_item;
 use query_item::ItemWords;
 use query_item::KeyAt;
-use query_item::item::write_item;
 
 // The bytes of an item.
 pub const ITEM_BYTES: usize = 10;

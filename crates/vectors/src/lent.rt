@@ -2,7 +2,7 @@
 ghost use mathlib.Core.Path.{_≡_};
 ghost use lib.ListN.{length};
 use crate::least;
-use query_item::item::ITEM_SIZE;
+use item_words::ITEM_SIZE;
 
 const MARK: u32 = 4278190080;
 

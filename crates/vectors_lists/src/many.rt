@@ -3,7 +3,7 @@
 use intersect_many::ManyAnswer;
 use intersect_many::ManyCounts;
 use intersect_many::intersect_many_ordered;
-use query_item::item::ITEM_SIZE;
+use item_words::ITEM_SIZE;
 use vectors::Cursor;
 use vectors::Met;
 use vectors::after_block;

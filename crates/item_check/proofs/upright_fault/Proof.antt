@@ -1,7 +1,24 @@
 -- `item_check::upright_fault` meets its contract: each return is the first test that holds. Assumes nothing.
+use Prim.Native.Nat.{ℕ}
+use mathlib.Core.Path.{_≡_, _∙_}
+use mathlib.Core.Bool.{true}
+use mathlib.Core.List.{List}
+use native.Mathlib.Nat.{le-refl}
 use borrow.Author.Needs.{needs}
+use borrow.Author.Tests.{le-leb}
+use Rattle.key_order.proofs.Line.{size}
+use Rattle.query_item.specs.declared.ItemWords.{ItemWords}
+use Rattle.query_item.specs.declared.RangeSetItem.the-variants.{Inclusive}
+use Rattle.query_item.specs.Boundaries.{rangeOf, upright}
+use Rattle.query_item.proofs.Laws.{rankIn, at-most-rank}
 use Rattle.item_check.proofs.upright_fault.Statement.{statement}
 use Rattle.item_check.proofs.upright_fault.Tie as tie
+
+-- a key starts where it ends
+key-upright : (pool : List ℕ) (it : ItemWords) → it .code ≡ 0 → upright pool (rangeOf it) ≡ true
+key-upright pool it e =
+    let n = size pool in
+    rw e (at-most-rank pool n (le-refl n) (Inclusive (it .start)) (Inclusive (it .start)) ∙ le-leb _ _ (le-refl (rankIn pool n (le-refl n) (Inclusive (it .start)))))
 
 returns : tie.Need-returns
 returns c = rw (← c .before .is-malformed .ensures, c .if1 .taken)
@@ -10,27 +27,38 @@ returns-2 : tie.Need-returns-2
 returns-2 c = rw (← c .before .before .before .is-malformed .ensures, c .before .before .if1 .left, ← c .before .is-outside .ensures, c .if2 .taken)
 
 returns-3 : tie.Need-returns-3
-returns-3 c = rw (
-  ← c .before .before .before .before .before .before .before .is-malformed .ensures,
-  c .before .before .before .before .before .before .if1 .left,
-  ← c .before .before .before .before .before .is-outside .ensures,
-  c .before .before .before .before .if2 .left,
-  ← c .before .before .before .query-item .ensures,
-  ← c .before .before .to-range-set .ensures,
-  ← c .before .is-upright .ensures,
-  c .if3 .taken,
-)
+returns-3 c =
+    let start = c .before .before .before .before .before .before .before in
+    rw (
+      ← c .before .before .before .before .before .is-malformed .ensures,
+      c .before .before .before .before .if1 .left,
+      ← c .before .before .before .is-outside .ensures,
+      c .before .before .if2 .left,
+      key-upright (start .args .pool .now) (start .args .item) (c .if3 .taken),
+    )
 
 returns-4 : tie.Need-returns-4
 returns-4 c = rw (
-  ← c .before .before .before .before .before .before .before .is-malformed .ensures,
-  c .before .before .before .before .before .before .if1 .left,
-  ← c .before .before .before .before .before .is-outside .ensures,
-  c .before .before .before .before .if2 .left,
+  ← c .before .before .before .before .before .before .before .before .before .is-malformed .ensures,
+  c .before .before .before .before .before .before .before .before .if1 .left,
+  ← c .before .before .before .before .before .before .before .is-outside .ensures,
+  c .before .before .before .before .before .before .if2 .left,
   ← c .before .before .before .query-item .ensures,
   ← c .before .before .to-range-set .ensures,
   ← c .before .is-upright .ensures,
-  c .if3 .left,
+  c .if4 .taken,
+)
+
+returns-5 : tie.Need-returns-5
+returns-5 c = rw (
+  ← c .before .before .before .before .before .before .before .before .before .is-malformed .ensures,
+  c .before .before .before .before .before .before .before .before .if1 .left,
+  ← c .before .before .before .before .before .before .before .is-outside .ensures,
+  c .before .before .before .before .before .before .if2 .left,
+  ← c .before .before .before .query-item .ensures,
+  ← c .before .before .to-range-set .ensures,
+  ← c .before .is-upright .ensures,
+  c .if4 .left,
 )
 
 pub upright-fault-spec : {M : Type 1} → statement M
@@ -41,8 +69,9 @@ upright-fault-spec =
     returns
     (λ c κs. search needs)
     returns-2
-    (λ c κs. search needs)
-    (λ c κs. search needs)
-    (λ c κs. search needs)
     returns-3
-    returns-4)
+    (λ c κs. search needs)
+    (λ c κs. search needs)
+    (λ c κs. search needs)
+    returns-4
+    returns-5)

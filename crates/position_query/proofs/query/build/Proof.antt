@@ -1,5 +1,12 @@
--- `build` meets its contract: counted, and refused or written and made canonical. Assumes nothing.
+-- `build` meets its contract: refused for want of room, or written and made canonical. Assumes nothing.
+use Prim.Native.Nat.{_/_, _≤_}
+use mathlib.Core.Path.{sym, _∙_}
+use native.Mathlib.Omega.{arith}
+use lib.ListN.{length}
 use denote.Ref.{now}
+use borrow.Author.Tests.{leb-true, leb-false, not-true, not-false}
+use Rattle.item_check.specs.Checks.{itemsOf}
+use Rattle.position_query.specs.Inner.{ranges}
 use Rattle.position_query.proofs.Builds.{build-short, build-whole}
 use borrow.Author.Needs.{needs}
 use Rattle.position_query.proofs.query.build.Statement.{statement}
@@ -8,14 +15,21 @@ use Rattle.position_query.proofs.query.build.Tie as tie
 returns : tie.Need-returns
 returns c =
     let a = c .before .before .before .before .before .args in
-    build-short (now (a .pool)) (now (a .items)) (a .count) (now (a .out)) (c .before .count-ranges .result) (c .before .count-ranges .ensures) (c .if1 .taken)
+    build-short (now (a .pool)) (now (a .items)) (a .count) (now (a .out)) (leb-false _ _ (sym (c .before .has-room .ensures) ∙ not-true _ (c .if1 .taken)))
+
+write-ranges-requires : tie.Need-write-ranges-requires
+write-ranges-requires c κs =
+    let a = c .before .before .before .before .before .before .args in
+    let fits : length (ranges (now (a .pool)) (a .count) (itemsOf (now (a .items)))) ≤ length (now (a .out)) / 2 =
+    leb-true _ _ (sym (c .before .before .has-room .ensures) ∙ not-false _ (c .before .if1 .left)) in omega arith
 
 returns-2 : tie.Need-returns-2
 returns-2 c =
     let a = c .before .before .before .before .before .before .before .before .before .before .before .before .before .args in
+    let fits = leb-true _ _ (sym (c .before .before .before .before .before .before .before .before .before .has-room .ensures) ∙ not-false _ (c .before .before .before .before .before .before .before .before .if1 .left)) in
     let w = c .before .before .before .before .before .before .write-ranges in
     let m = c .before .before .make-canonical in
-    build-whole (now (a .pool)) (now (a .items)) (a .count) (now (a .out)) (c .before .before .before .before .before .before .before .before .before .count-ranges .result) (c .before .before .before .before .before .before .before .before .before .count-ranges .ensures) (w .last .1 .1 .1 .0) (m .last .0) (m .result) (c .before .before .before .before .before .before .before .before .if1 .left) (w .kept .1 .1 .1 .0) (w .ensures) (m .ensures)
+    build-whole (now (a .pool)) (now (a .items)) (a .count) (now (a .out)) (w .result) (w .last .1 .1 .1 .0) (m .last .0) (m .result) fits (w .ensures .0) (w .kept .1 .1 .1 .0) (w .ensures .1) (m .ensures)
 
 pub build-spec : {M : Type 1} → statement M
 build-spec =
@@ -23,7 +37,7 @@ build-spec =
     (tie.spec
     (λ c κs. search needs)
     returns
-    (λ c κs. search needs)
+    write-ranges-requires
     (λ c κs. search needs)
     (λ c. search needs)
     returns-2)

@@ -5,7 +5,7 @@ use mathlib.Core.Path.{_≡_, _∙_}
 use lib.ListN.{length}
 use denote.Ref.{now}
 use Rattle.query_item.specs.Items.{itemSize}
-use Rattle.position_query.proofs.Builds.{Writing, writing-start, writing-more, writing-end}
+use Rattle.position_query.proofs.Builds.{Writing, writing-start, writing-more, writing-count, writing-end}
 use borrow.Author.Needs.{needs}
 use Rattle.position_query.proofs.query.write_ranges.Statement.{statement}
 use Rattle.position_query.proofs.query.write_ranges.Tie as tie
@@ -32,7 +32,9 @@ same-length : tie.Need-same-length Inv-loop μ-loop
 same-length c = c .before .loop .inv .1 .size
 
 returns : tie.Need-returns Inv-loop μ-loop
-returns c = writing-end _ _ _ _ _ _ _ _ (c .before .loop .inv .1) (c .loop-test .left)
+returns c =
+    let W = c .before .loop .inv .1 in
+    (writing-count _ _ _ _ _ _ _ _ W (c .loop-test .left), writing-end _ _ _ _ _ _ _ _ W (c .loop-test .left))
 
 pub write-ranges-spec : {M : Type 1} → statement M
 write-ranges-spec =
