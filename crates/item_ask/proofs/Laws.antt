@@ -1,5 +1,7 @@
 -- Each law that a caller cites. It is stated in the file that the line names, and passed on. Assumes nothing.
 
+-- the table's answers about a key are those of the item's boundaries
+pub use Rattle.item_ask.proofs.Between.{containment-between}
 -- where a direction is answered no, no key that the item holds stands there
 pub use Rattle.item_ask.proofs.Directions.{no-left, no-right}
 -- an answer's numbers and values tell its cases apart

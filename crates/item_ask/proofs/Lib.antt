@@ -1,3 +1,4 @@
+pub mod Between
 pub mod Directions
 pub mod Apart
 pub mod Laws

@@ -9,10 +9,10 @@ use Rattle.query_item.specs.declared.MaybeItem.the-variants.{NoItem, Item}
 use Rattle.query_item.specs.Items.{queryItem}
 use Rattle.query_item.specs.Boundaries.{rangeOf, toQueryItem}
 use Rattle.item_check.specs.Checks.{Answer, answered, andThen, refusedAs, singleVerdict, setVerdict}
-use Rattle.item_ask.specs.declared.KeyContainmentResult.{KeyContainmentResult}
+use Rattle.range_borrowed.specs.declared.Direction.{Direction}
+use Rattle.range_borrowed.specs.declared.KeyContainmentResult.{KeyContainmentResult}
 use Rattle.item_ask.specs.declared.Containment.{Containment}
 use Rattle.item_ask.specs.declared.Containment.the-variants as containment
-use Rattle.item_ask.specs.declared.Direction.{Direction}
 use Rattle.item_ask.specs.declared.InDirection.{InDirection}
 use Rattle.item_ask.specs.declared.InDirection.the-variants as direction
 use Rattle.item_ask.specs.declared.RangeAnswer.{RangeAnswer}

@@ -1,11 +1,7 @@
 // Calls on an item, or on two boundaries, in a pool.
-use crate::keys::kind_number;
-use crate::keys::kind_numbered;
 use item_ask::Containment;
-use item_ask::Direction;
 use item_ask::InDirection;
 use item_ask::ItemAnswer;
-use item_ask::KeyContainmentResult;
 use item_ask::RangeAnswer;
 use query_item::BoundaryKind;
 use query_item::KeyAt;
@@ -14,6 +10,10 @@ use query_item::RangeSet;
 use query_item::RangeSetItem;
 use query_item::boundary::key_of;
 use query_item::boundary::kind_of;
+use range_borrowed::Direction;
+use range_borrowed::KeyContainmentResult;
+use range_borrowed::kind_number;
+use range_borrowed::kind_numbered;
 use vectors::Cursor;
 use vectors::Met;
 use vectors::after_block;
@@ -50,8 +50,8 @@ pub(crate) fn to_range_set_met<'a>(x: &'a [u8], a: &'a [u8], rust: &'a [u8]) -> 
 fn is_set<'a>(a: &'a [u8], pool: &'a [u8], set: RangeSet) -> bool {
     let start = set.start;
     let end = set.end;
-    let from = holds_byte(a, answered(a), kind_number(kind_of(start)));
-    let to = holds_byte(a, from, kind_number(kind_of(end)));
+    let from = holds_byte(a, answered(a), kind_number(kind_of(start)) as u64);
+    let to = holds_byte(a, from, kind_number(kind_of(end)) as u64);
     is_all(
         a,
         holds_key(a, holds_key(a, to, pool, key_of(start)), pool, key_of(end)),
@@ -79,8 +79,8 @@ fn set_of(x: &[u8], c: Cursor) -> RangeSet {
     let words = item(x, c);
     let a = words.start;
     let b = words.end;
-    let start = with_key(kind_numbered(byte(x, c)), a);
-    let end = with_key(kind_numbered(byte(x, on(x, c, 1))), b);
+    let start = with_key(kind_numbered(byte(x, c) as u32), a);
+    let end = with_key(kind_numbered(byte(x, on(x, c, 1)) as u32), b);
     RangeSet { start, end }
 }
 

@@ -1,8 +1,9 @@
 // Calls on keys and on boundaries whose keys are lent bytes.
 use key_order::Ordering;
-use query_item::BoundaryKind;
 use query_item::boundary::compare_boundaries;
 use query_item::boundary::invert;
+use range_borrowed::kind_number;
+use range_borrowed::kind_numbered;
 use vectors::Cursor;
 use vectors::Met;
 use vectors::after_key;
@@ -40,9 +41,9 @@ pub(crate) fn compare_boundaries_met<'a>(x: &'a [u8], a: &'a [u8], rust: &'a [u8
     let first = on(x, FRONT, 1);
     let second = after_key(x, first);
     let order = compare_boundaries(
-        kind_numbered(byte(x, FRONT)),
+        kind_numbered(byte(x, FRONT) as u32),
         key(x, first),
-        kind_numbered(byte(x, second)),
+        kind_numbered(byte(x, second) as u32),
         key(x, on(x, second, 1)),
     );
     number_met(a, rust, order_number(order))
@@ -51,8 +52,8 @@ pub(crate) fn compare_boundaries_met<'a>(x: &'a [u8], a: &'a [u8], rust: &'a [u8
 // Inputs: a kind, and 1 for the start.
 pub(crate) fn invert_met<'a>(x: &'a [u8], a: &'a [u8], rust: &'a [u8]) -> Met {
     let is_start = byte(x, on(x, FRONT, 1)) != 0;
-    let kind = invert(kind_numbered(byte(x, FRONT)), is_start);
-    number_met(a, rust, kind_number(kind))
+    let kind = invert(kind_numbered(byte(x, FRONT) as u32), is_start);
+    number_met(a, rust, kind_number(kind) as u64)
 }
 
 fn order_number(o: Ordering) -> u64 {
@@ -60,25 +61,5 @@ fn order_number(o: Ordering) -> u64 {
         Ordering::Less => 0,
         Ordering::Equal => 1,
         Ordering::Greater => 2,
-    }
-}
-
-pub(crate) fn kind_number(kind: BoundaryKind) -> u64 {
-    match kind {
-        BoundaryKind::UnboundedStart => 0,
-        BoundaryKind::UnboundedEnd => 1,
-        BoundaryKind::Inclusive => 2,
-        BoundaryKind::ExclusiveStart => 3,
-        BoundaryKind::ExclusiveEnd => 4,
-    }
-}
-
-pub(crate) fn kind_numbered(n: u8) -> BoundaryKind {
-    match n {
-        0 => BoundaryKind::UnboundedStart,
-        1 => BoundaryKind::UnboundedEnd,
-        2 => BoundaryKind::Inclusive,
-        3 => BoundaryKind::ExclusiveStart,
-        _ => BoundaryKind::ExclusiveEnd,
     }
 }

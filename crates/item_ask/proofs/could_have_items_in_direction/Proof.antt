@@ -7,16 +7,9 @@ returns : tie.Need-returns
 returns c = rw (← c .before .before .before .check-item .ensures, c .before .r .given .1)
 
 returns-2 : tie.Need-returns-2
-returns-2 c = rw (← c .before .before .before .before .check-item .ensures, c .before .before .enum-told .given .1, c .in-direction .ensures, c .before .query-item .ensures)
+returns-2 c = rw (← c .before .before .before .check-item .ensures, c .before .enum-told .given .1, c .item-may-stand .ensures)
 
 pub could-have-items-in-direction-spec : {M : Type 1} → statement M
 could-have-items-in-direction-spec =
     tie.close
-    (tie.spec
-    (λ c κs. search needs)
-    (λ c. search needs)
-    (λ c. search needs)
-    (λ c κs. search needs)
-    (λ c κs. search needs)
-    returns
-    returns-2)
+    (tie.spec (λ c κs. search needs) (λ c. search needs) (λ c. search needs) (λ c κs. search needs) returns returns-2)
