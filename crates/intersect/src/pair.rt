@@ -1,10 +1,9 @@
 // The pair: what two ranges share, and their leftovers.
 ghost use mathlib.Core.Path.{_≡_};
-ghost use mathlib.Core.Bool.{cond};
-ghost use mathlib.Core.List.{[], _∷_};
 ghost use Rattle.key_order.specs.Order.{smaller};
+ghost use Rattle.query_item.specs.Boundaries.{fromTo};
 ghost use Rattle.item_check.specs.Checks.{verdictOf};
-ghost use Rattle.intersect.specs.Pair.{before, largerStart, smallerEnd, overlap, meetSets, leftPart, leftOver, rightPart, rightOver, asSets, converted, intersection, pairOf, twoVerdict, pairVerdict, pairAnswer};
+ghost use Rattle.intersect.specs.Pair.{before, meetSets, leftPart, leftOver, rightPart, rightOver, asSets, converted, intersection, pairOf, twoVerdict, pairVerdict, pairAnswer};
 use crate::MaybeSet;
 use crate::PairAnswer;
 use crate::QueryItemIntersectionResult;
@@ -12,6 +11,7 @@ use item_check::Checked;
 use item_check::check_fault;
 use item_check::check_pool;
 use item_check::upright_fault;
+use item_words::query_item;
 use key_order::Ordering;
 use query_item::ItemWords;
 use query_item::MaybeItem;
@@ -20,7 +20,6 @@ use query_item::RangeSetItem;
 use query_item::boundary::compare_in;
 use query_item::boundary::invert_in;
 use query_item::boundary::is_less;
-use query_item::item::query_item;
 
 // What two items share, and what is left over of each.
 pub fn intersect_items(pool: &[u8], ours: ItemWords, theirs: ItemWords) -> PairAnswer
@@ -91,43 +90,28 @@ pub fn is_before(pool: &[u8], a: RangeSet, b: RangeSet) -> bool
 fn meet_sets(pool: &[u8], ours: RangeSet, theirs: RangeSet) -> MaybeSet
     ensures { λ r. ⌜ asSets r ≡ meetSets (now (pool .entry)) ours theirs ⌝ }
 {
-    meet_by(
-        pool,
-        is_before(pool, ours, theirs) | is_before(pool, theirs, ours),
-        ours,
-        theirs,
-    )
-}
-
-// inner: what two ranges share, where it is known whether they are disjoint.
-pub fn meet_by(pool: &[u8], disjoint: bool, ours: RangeSet, theirs: RangeSet) -> MaybeSet
-    ensures { λ r. ⌜ asSets r ≡ cond disjoint [] (overlap (now (pool .entry)) ours theirs ∷ []) ⌝ }
-{
-    if disjoint {
+    if is_before(pool, ours, theirs) | is_before(pool, theirs, ours) {
         return MaybeSet::NoSet;
     }
-    MaybeSet::Set(RangeSet {
-        start: larger_start(pool, ours, theirs),
-        end: smaller_end(pool, ours, theirs),
-    })
+    let a = ours.start;
+    let b = theirs.start;
+    let e = ours.end;
+    let f = theirs.end;
+    MaybeSet::Set(overlap_by(compare_in(pool, a, b), compare_in(pool, e, f), ours, theirs))
 }
 
-// The larger start, and ours on a tie.
-fn larger_start(pool: &[u8], ours: RangeSet, theirs: RangeSet) -> RangeSetItem
-    ensures { λ r. ⌜ r ≡ largerStart (now (pool .entry)) ours theirs ⌝ }
+// inner: from the larger start, ours on a tie, to the smaller end, theirs on a tie, where it is known how the starts and the ends stand.
+pub fn overlap_by(starts: Ordering, ends: Ordering, ours: RangeSet, theirs: RangeSet) -> RangeSet
+    ensures { λ r. ⌜ r ≡ fromTo (smaller starts (theirs .start) (ours .start)) (smaller ends (ours .end) (theirs .end)) ⌝ }
 {
     let a = ours.start;
     let b = theirs.start;
-    smaller_of(compare_in(pool, a, b), b, a)
-}
-
-// The smaller end, and theirs on a tie.
-fn smaller_end(pool: &[u8], ours: RangeSet, theirs: RangeSet) -> RangeSetItem
-    ensures { λ r. ⌜ r ≡ smallerEnd (now (pool .entry)) ours theirs ⌝ }
-{
-    let a = ours.end;
-    let b = theirs.end;
-    smaller_of(compare_in(pool, a, b), a, b)
+    let e = ours.end;
+    let f = theirs.end;
+    RangeSet {
+        start: smaller_of(starts, b, a),
+        end: smaller_of(ends, e, f),
+    }
 }
 
 fn smaller_of(o: Ordering, x: RangeSetItem, y: RangeSetItem) -> RangeSetItem
@@ -153,8 +137,8 @@ fn left_over(pool: &[u8], a: RangeSet, b: RangeSet) -> MaybeSet
     left_part(pool, a, b)
 }
 
-// What of a starts below b, up to b's start.
-fn left_part(pool: &[u8], a: RangeSet, b: RangeSet) -> MaybeSet
+// inner: what of a starts below b, up to b's start.
+pub fn left_part(pool: &[u8], a: RangeSet, b: RangeSet) -> MaybeSet
     ensures { λ r. ⌜ asSets r ≡ leftPart (now (pool .entry)) a b ⌝ }
 {
     let start = a.start;
@@ -194,14 +178,4 @@ fn right_part(pool: &[u8], a: RangeSet, b: RangeSet) -> MaybeSet
         });
     }
     MaybeSet::NoSet
-}
-
-// inner: left_over of an upright b, where it is known whether a stands before it: a that starts past b has no part below it anyway.
-pub fn left_by(pool: &[u8], first: bool, a: RangeSet, b: RangeSet) -> MaybeSet
-    ensures { λ r. ⌜ asSets r ≡ cond first (a ∷ []) (leftPart (now (pool .entry)) a b) ⌝ }
-{
-    if first {
-        return MaybeSet::Set(a);
-    }
-    left_part(pool, a, b)
 }

@@ -10,3 +10,4 @@ pub mod Shown
 pub mod Sound
 pub mod Demanded
 pub mod Demands
+pub mod Stands

@@ -14,6 +14,8 @@ use Rattle.intersect.specs.declared.MaybeSet.{MaybeSet}
 use Rattle.intersect.specs.declared.MaybeSet.the-variants.{NoSet, Set}
 use Rattle.intersect.specs.Pair.{before, disjoint, overlap, meetSets, leftPart, leftOver, asSets, asItems, converted}
 use Rattle.intersect_many.specs.Lists.{convertAll}
+use Rattle.intersect_many.specs.Sweep.{Put}
+use Rattle.intersect_many.proofs.Written.{put-none}
 
 -- a range that may be missing, converted, as a list
 pub convert-one : (pool : List ℕ) (s : MaybeSet) → asItems (converted pool (asSets s)) ≡ convertAll pool (asSets s)
@@ -25,6 +27,15 @@ pub convert-append : (pool : List ℕ) (S T : List RangeSet) → convertAll pool
 unfolding convertAll
 convert-append pool [] T = refl
 convert-append pool (s ∷ S) T = rw (convert-append pool S T, append-assoc)
+
+-- one range, converted, and none
+pub convert-whole : (pool : List ℕ) (s : RangeSet) → convertAll pool (s ∷ []) ≡ asItems (toQueryItem pool s)
+unfolding convertAll
+convert-whole pool s = append-nil (asItems (toQueryItem pool s))
+
+pub put-none-converted : (pool out : List ℕ) (n : ℕ) → Put out n (convertAll pool []) out n
+unfolding convertAll
+put-none-converted pool out n = put-none out n
 
 -- ---- a turn makes at most one item for each list
 

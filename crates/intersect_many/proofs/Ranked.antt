@@ -1,24 +1,24 @@
 -- Ranges of a pool by their ranks: what two share, a cut and its parts, as the one-pass sweeps ask for them; and accepted lists ascend.
 -- Assumes nothing.
 use Prim.Native.Nat.{ℕ, _+_, _≤_, _<_}
-use mathlib.Core.Path.{_≡_, refl, sym, _∙_}
-use mathlib.Core.Bool.{Bool, true, false, cond}
+use mathlib.Core.Path.{_≡_, refl, sym, ap, _∙_}
+use mathlib.Core.Bool.{Bool, true, false, cond, not}
 use mathlib.Core.List.{List, [], _∷_, append-nil, map}
 use native.Mathlib.Decide.{decLt}
 use native.Mathlib.Omega.{arith}
-use borrow.Author.Tests.{leb-true, leb-false, ltb-true}
-use Rattle.key_order.specs.Order.{isAtMost}
+use borrow.Author.Tests.{leb-true, leb-false, ltb-true, ltb-false}
+use Rattle.key_order.specs.Order.{isLess, isAtMost}
 use Rattle.key_order.proofs.Line.{size}
 use Rattle.query_item.specs.declared.ItemWords.{ItemWords}
 use Rattle.query_item.specs.declared.RangeSetItem.{RangeSetItem}
 use Rattle.query_item.specs.declared.RangeSet.{RangeSet}
 use Rattle.query_item.specs.Items.{queryItem}
 use Rattle.query_item.specs.Boundaries.{compareIn, invertOf, fromTo, rangeOf, upright}
-use Rattle.query_item.proofs.Laws.{rankIn, less-rank, at-most-rank, upright-whole, invert-start, invert-end, rank-top}
+use Rattle.query_item.proofs.Laws.{rankIn, less-rank, at-most-rank, upright-whole, whole-upright, invert-start, invert-end, rank-top}
 use Rattle.item_check.specs.Checks.{malformed, outside, uprightFault}
 use Rattle.item_check.proofs.Laws.{AllSound, Following, InOrder}
 use Rattle.intervals.proofs.Laws.{AboveOf, BelowOf, Spanned, Meeting, Cutting}
-use Rattle.intersect.specs.Pair.{before, meetSets, leftOver, rightOver}
+use Rattle.intersect.specs.Pair.{before, overlap, meetSets, leftPart, leftOver, rightOver}
 use Rattle.intersect.proofs.Ranked as pair
 use Rattle.intersect_many.specs.Lists.{cutSets}
 use Rattle.intersect_many.specs.Sweep.{rightSet}
@@ -77,6 +77,16 @@ module _ (pool : List ℕ) (n : ℕ) (fits : size pool ≤ n) where
       ]
     ]
 
+  -- what is left past b starts no lower
+  pub right-set-low : (a b : RangeSet) → Good a → Good b → high b < high a → low a ≤ low (rightSet pool a b)
+  unfolding rightSet
+  right-set-low a b A B l = elim (decLt (rk (b .end)) (rk (a .start))) [
+    | yes h ↦ rw (pair.less-yes pool n fits (b .end) (a .start) h) (omega arith)
+    | no h ↦
+        let i = invert-end pool n fits (b .end) (B .ends) (omega (arith, rank-top pool n fits (a .end))) in
+        rw (pair.less-no pool n fits (b .end) (a .start) (omega arith)) (omega (arith, i .1))
+  ]
+
   right-set-high : (a b : RangeSet) → high (rightSet pool a b) ≡ high a
   unfolding rightSet
   right-set-high a b = go (before pool b a)
@@ -92,6 +102,65 @@ module _ (pool : List ℕ) (n : ℕ) (fits : size pool ≤ n) where
       go : (t : Bool) → cond t a (fromTo (invertOf (b .end) true) (a .end)) .end ≡ a .end
       go true = refl
       go false = refl
+
+  -- ---- a turn: x and y are left of a and b, have their ends, and start no lower
+
+  before-says : (a b : RangeSet) → before pool a b ≡ true → rk (a .end) < rk (b .start)
+  before-says a b e = ltb-true (rk (a .end)) (rk (b .start)) (sym (less-rank pool n fits (a .end) (b .start)) ∙ e)
+
+  before-not : (a b : RangeSet) → before pool a b ≡ false → rk (b .start) ≤ rk (a .end)
+  before-not a b e = ltb-false (rk (a .end)) (rk (b .start)) (sym (less-rank pool n fits (a .end) (b .start)) ∙ e)
+
+  pub meet-met : (a b : RangeSet) → before pool a b ≡ false → before pool b a ≡ false → meetSets pool a b ≡ overlap pool a b ∷ []
+  unfolding meetSets
+  meet-met a b f g = rw (f, g)
+
+  -- what x has below b, where a is not before b: nothing, unless a starts below b
+  left-of : (b x : RangeSet) → Good b → before pool x b ≡ false → leftOver pool x b ≡ leftPart pool x b
+  left-of b x B f = sym (pair.left-quick pool x b (whole-upright pool n fits b B)) ∙ rw f
+
+  left-gone : (b x : RangeSet) → rk (b .start) ≤ rk (x .start) → leftPart pool x b ≡ []
+  left-gone b x l = rw (pair.less-no pool n fits (x .start) (b .start) l)
+
+  pub left-known : (a b x : RangeSet) → Good a → Good b → Good x → x .end ≡ a .end → rk (a .start) ≤ rk (x .start) → before pool a b ≡ false
+      → leftOver pool x b ≡ cond (isLess (compareIn pool (a .start) (b .start))) (leftPart pool x b) []
+  left-known a b x A B X e l f = left-of b x B (rw e f) ∙ go (isLess (compareIn pool (a .start) (b .start))) refl
+    where
+      go : (t : Bool) → isLess (compareIn pool (a .start) (b .start)) ≡ t → leftPart pool x b ≡ cond t (leftPart pool x b) []
+      go true p = refl
+      go false p = left-gone b x (omega (arith, l, ltb-false (rk (a .start)) (rk (b .start)) (sym (less-rank pool n fits (a .start) (b .start)) ∙ p)))
+
+  pub left-known-past : (a b y : RangeSet) → Good a → Good b → Good y → y .end ≡ b .end → rk (b .start) ≤ rk (y .start) → before pool b a ≡ false
+      → leftOver pool y a ≡ cond (not (isAtMost (compareIn pool (a .start) (b .start)))) (leftPart pool y a) []
+  left-known-past a b y A B Y e l f = left-of a y A (rw e f) ∙ go (isAtMost (compareIn pool (a .start) (b .start))) refl
+    where
+      go : (t : Bool) → isAtMost (compareIn pool (a .start) (b .start)) ≡ t → leftPart pool y a ≡ cond (not t) (leftPart pool y a) []
+      go true p = left-gone a y (omega (arith, l, leb-true (rk (a .start)) (rk (b .start)) (sym (at-most-rank pool n fits (a .start) (b .start)) ∙ p)))
+      go false p = refl
+
+  -- a stands before b: the two share nothing, x is whole, y has nothing below a and stays
+  pub record Apart (a b x y : RangeSet) : Type 0 where
+    pub shared : meetSets pool a b ≡ []
+    pub shared-past : meetSets pool b a ≡ []
+    pub whole : leftOver pool x b ≡ x ∷ []
+    pub none : leftOver pool y a ≡ []
+    pub kept : rightSet pool y a ≡ y
+    pub sooner : rk (a .end) < rk (b .end)
+
+  pub apart : (a b x y : RangeSet) → Good a → Good b → Good x → Good y → x .end ≡ a .end → rk (b .start) ≤ rk (y .start) → before pool a b ≡ true
+      → Apart a b x y
+  unfolding rightSet
+  apart a b x y A B X Y e l f =
+      let below = before-says a b f in
+      let ends : rk (x .end) ≡ rk (a .end) = ap rk e in
+      record {
+        shared = pair.meet-none-below pool n fits a b A B (omega arith);
+        shared-past = pair.meet-none-past pool n fits b a B A (omega arith);
+        whole = pair.left-whole pool n fits x b X B (omega arith);
+        none = pair.left-none pool n fits y a Y A (omega (arith, A .straight));
+        kept = rw (pair.less-yes pool n fits (a .end) (y .start) (omega arith));
+        sooner = omega (arith, B .straight);
+      }
 
   pub meeting : Meeting (meetSets pool) endsFirst Good low high
   meeting = record { spanned = spanned; none-below = pair.meet-none-below pool n fits; none-past = pair.meet-none-past pool n fits }

@@ -1,18 +1,20 @@
 -- The ranges of a list that are left at an index. Assumes nothing.
-use Prim.Native.Nat.{ℕ, _+_, _/_, _≤_, _<_}
-use mathlib.Core.Path.{_≡_}
-use mathlib.Core.List.{List, [], _∷_, _++_}
+use Prim.Native.Nat.{ℕ, zero, suc, _+_, _-_, _/_, _≤_, _<_}
+use mathlib.Core.Path.{_≡_, refl, ap}
+use mathlib.Core.List.{List, [], _∷_, _++_, map}
 use native.Mathlib.Decide.{decLt}
 use native.Mathlib.Nat.{sub-zero}
 use native.Mathlib.Omega.{arith}
-use lib.ListN.{length}
+use lib.ListN.{length, length-append}
 use Rattle.query_item.specs.declared.RangeSet.{RangeSet}
-use Rattle.query_item.specs.Items.{itemSize}
-use Rattle.query_item.specs.Boundaries.{setAt, toQueryItem}
+use Rattle.query_item.specs.declared.MaybeItem.{MaybeItem}
+use Rattle.query_item.specs.declared.MaybeItem.the-variants.{NoItem, Item}
+use Rattle.query_item.specs.Items.{itemSize, itemsFrom}
+use Rattle.query_item.specs.Boundaries.{rangeOf, setAt, toQueryItem}
 use Rattle.item_check.proofs.Laws.{items-end, items-more}
 use Rattle.intersect.specs.Pair.{asItems}
 use Rattle.intersect_many.specs.Lists.{setsOf, convertAll}
-use Rattle.intersect_many.specs.Sweep.{setsLeft, restLeft}
+use Rattle.intersect_many.specs.Sweep.{setsLeft, withHead, restLeft}
 
 -- at the first index all are
 pub sets-all : (ws : List ℕ) → setsLeft ws 0 ≡ setsOf ws
@@ -47,3 +49,27 @@ pub convert-rest : (pool ws : List ℕ) (i : ℕ) (x : RangeSet) → i < length 
     → convertAll pool (restLeft ws i x) ≡ asItems (toQueryItem pool x) ++ convertAll pool (setsLeft ws (i + 1))
 unfolding convertAll
 convert-rest pool ws i x h = rw (rest-more ws i x h)
+
+-- ---- how many items are left at most
+
+one-at-most : (m : MaybeItem) → length (asItems m) ≤ 1
+one-at-most NoItem = omega arith
+one-at-most (Item q) = omega arith
+
+convert-length : (pool : List ℕ) (S : List RangeSet) → length (convertAll pool S) ≤ length S
+unfolding convertAll
+convert-length pool [] = omega arith
+convert-length pool (s ∷ S) = rw length-append (omega (arith, one-at-most (toQueryItem pool s), convert-length pool S))
+
+length-left : (ws : List ℕ) (i k : ℕ) → length (map rangeOf (itemsFrom ws i k)) ≡ k
+unfolding itemsFrom
+length-left ws i zero = refl
+length-left ws i (suc k) = ap suc (length-left ws (suc i) k)
+
+length-head : (x : RangeSet) (S : List RangeSet) → length (withHead x S) ≡ length S
+length-head x [] = refl
+length-head x (s ∷ S) = refl
+
+pub rest-few : (pool ws : List ℕ) (i : ℕ) (x : RangeSet) → length (convertAll pool (restLeft ws i x)) ≤ length ws / itemSize - i
+rest-few pool ws i x =
+    omega (arith, convert-length pool (restLeft ws i x), length-head x (setsLeft ws i), length-left ws i (length ws / itemSize - i))

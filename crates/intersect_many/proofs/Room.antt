@@ -1,19 +1,19 @@
 -- The room of the three lists: what is refused for want of it, and what items written in enough of it leave. Assumes nothing.
 use Prim.Native.Nat.{ℕ, suc, _+_, _*_, _/_, _≤_}
 use mathlib.Core.Path.{_≡_, refl, sym, ap, _∙_}
-use mathlib.Core.Bool.{Bool, true, false, _||_}
+use mathlib.Core.Bool.{true, false, _||_}
 use mathlib.Core.List.{List, [], _∷_, _++_}
 use native.Mathlib.Nat.{add-zero, zero-add}
 use native.Mathlib.Omega.{arith}
 use lib.ListN.{length, set}
 use lib.Seq.{sets, sets-eq, length-sets}
-use borrow.Author.Tests.{ltb-false, lt-ltb}
+use borrow.Author.Tests.{ltb-false, lt-ltb, le-ltb}
 use Rattle.query_item.specs.declared.QueryItem.{QueryItem}
 use Rattle.query_item.specs.Items.{itemSize, wordsOf, flat, withItem}
 use Rattle.item_check.specs.Checks.{answered, refused, accepted, andThen, poolVerdict, listVerdict}
 use Rattle.item_check.proofs.Laws.{or-false, accepts}
 use Rattle.intersect_many.specs.declared.ManyCounts.{ManyCounts}
-use Rattle.intersect_many.specs.Lists.{sharedItems, onlyItems, wordsAll, laidOver, bothVerdict, listsVerdict, passes, countsOf, roomVerdict, roomAnswer}
+use Rattle.intersect_many.specs.Lists.{sharedItems, onlyItems, wordsAll, laidOver, bothVerdict, listsVerdict, passes, lacksRoom, countsOf, roomVerdict, roomAnswer, written}
 use Rattle.intersect_many.specs.Sweep.{putAll, Put}
 
 -- ---- items in enough room
@@ -48,34 +48,71 @@ put-laid {out} Q p h =
 pub put-count : {out out′ : List ℕ} {n : ℕ} (Q : List QueryItem) → Put out 0 Q out′ n → n ≡ length Q
 put-count Q p = omega (arith, p .count)
 
--- ---- the room: t, u and v tell which list passes it
+-- ---- the room
 
-module _ (pool ours theirs both mine yours : List ℕ) (n : ManyCounts) (is : n ≡ countsOf pool ours theirs) {t u v : Bool}
-    (p : t ≡ passes (n .«in_both») both) (q : u ≡ passes (n .ours) mine) (r : v ≡ passes (n .theirs) yours) where
+module _ (n : ManyCounts) (both mine yours : List ℕ) (e : lacksRoom n both mine yours ≡ false) where
+  three : (passes (n .«in_both») both ≡ false) × (passes (n .ours) mine ≡ false) × (passes (n .theirs) yours ≡ false)
+  three =
+      let last = or-false (passes (n .«in_both») both || passes (n .ours) mine) (passes (n .theirs) yours) .0 e in
+      let two = or-false (passes (n .«in_both») both) (passes (n .ours) mine) .0 (last .0) in
+      (two .0, two .1, last .1)
+
+  pub has-room : (n .«in_both» ≤ length both / itemSize) × (n .ours ≤ length mine / itemSize) × (n .theirs ≤ length yours / itemSize)
+  has-room = (
+    ltb-false (length both / itemSize) (n .«in_both») (three .0),
+    ltb-false (length mine / itemSize) (n .ours) (three .1),
+    ltb-false (length yours / itemSize) (n .theirs) (three .2),
+  )
+
+-- fewer items need no more room
+pub room-for-fewer : (n m : ManyCounts) (both mine yours : List ℕ) → n .«in_both» ≤ m .«in_both» → n .ours ≤ m .ours → n .theirs ≤ m .theirs
+    → lacksRoom m both mine yours ≡ false → lacksRoom n both mine yours ≡ false
+room-for-fewer n m both mine yours p q r e =
+    let room = has-room m both mine yours e in
+    rw (le-ltb (length both / itemSize) (n .«in_both») (omega (arith, room .0)), le-ltb (length mine / itemSize) (n .ours) (omega (arith, room .1)), le-ltb (length yours / itemSize) (n .theirs) (omega (arith, room .2)))
+
+pub counted : (pool ours theirs : List ℕ) {both mine yours both′ mine′ yours′ : List ℕ} (n : ManyCounts)
+    → Put both 0 (sharedItems pool ours theirs) both′ (n .«in_both») → Put mine 0 (onlyItems pool ours theirs) mine′ (n .ours)
+    → Put yours 0 (onlyItems pool theirs ours) yours′ (n .theirs) → n ≡ countsOf pool ours theirs
+counted pool ours theirs n p q r =
+    let e = put-count (sharedItems pool ours theirs) p in
+    let f = put-count (onlyItems pool ours theirs) q in
+    let g = put-count (onlyItems pool theirs ours) r in
+    λ i. record { «in_both» = e i; ours = f i; theirs = g i }
+
+module _ (pool ours theirs both mine yours : List ℕ) (n : ManyCounts) (is : n ≡ countsOf pool ours theirs) where
   by-counts : roomAnswer pool ours theirs both mine yours ≡ andThen (roomVerdict n both mine yours) (answered n)
   by-counts = ap (λ (m : ManyCounts). andThen (roomVerdict m both mine yours) (answered m)) (sym is)
 
-  pub room-refused : t || u || v ≡ true → roomAnswer pool ours theirs both mine yours ≡ refused 6 0 0
-  room-refused e = by-counts ∙ rw (← p, ← q, ← r, e)
+  pub room-refused : lacksRoom n both mine yours ≡ true → roomAnswer pool ours theirs both mine yours ≡ refused 6 0 0
+  room-refused e = by-counts ∙ rw e
 
-  module _ (e : t || u || v ≡ false) where
+  module _ (e : lacksRoom n both mine yours ≡ false) where
     pub room-answered : roomAnswer pool ours theirs both mine yours ≡ answered n
-    room-answered = by-counts ∙ rw (← p, ← q, ← r, e)
-
-    three : (t ≡ false) × (u ≡ false) × (v ≡ false)
-    three =
-        let last = or-false (t || u) v .0 e in
-        let two = or-false t u .0 (last .0) in
-        (two .0, two .1, last .1)
+    room-answered = by-counts ∙ rw e
 
     pub shared-fits : length (sharedItems pool ours theirs) ≤ length both / itemSize
-    shared-fits = omega (arith, ltb-false (length both / itemSize) (n .«in_both») (sym p ∙ three .0), ap (λ (m : ManyCounts). m .«in_both») is)
+    shared-fits = omega (arith, has-room n both mine yours e .0, ap (λ (m : ManyCounts). m .«in_both») is)
 
     pub ours-fits : length (onlyItems pool ours theirs) ≤ length mine / itemSize
-    ours-fits = omega (arith, ltb-false (length mine / itemSize) (n .ours) (sym q ∙ three .1), ap (λ (m : ManyCounts). m .ours) is)
+    ours-fits = omega (arith, has-room n both mine yours e .1, ap (λ (m : ManyCounts). m .ours) is)
 
     pub theirs-fits : length (onlyItems pool theirs ours) ≤ length yours / itemSize
-    theirs-fits = omega (arith, ltb-false (length yours / itemSize) (n .theirs) (sym r ∙ three .2), ap (λ (m : ManyCounts). m .theirs) is)
+    theirs-fits = omega (arith, has-room n both mine yours e .2, ap (λ (m : ManyCounts). m .theirs) is)
+
+    -- what the pass leaves is what the call promises
+    pub lists-answered : {both′ mine′ yours′ : List ℕ} {m : ManyCounts}
+        → Put both 0 (sharedItems pool ours theirs) both′ (m .«in_both») → Put mine 0 (onlyItems pool ours theirs) mine′ (m .ours) → Put yours 0 (onlyItems pool theirs ours) yours′ (m .theirs)
+        → (answered n ≡ roomAnswer pool ours theirs both mine yours)
+        × (both′ ≡ written (roomAnswer pool ours theirs both mine yours) (sharedItems pool ours theirs) both)
+        × (mine′ ≡ written (roomAnswer pool ours theirs both mine yours) (onlyItems pool ours theirs) mine)
+        × (yours′ ≡ written (roomAnswer pool ours theirs both mine yours) (onlyItems pool theirs ours) yours)
+    lists-answered p q r = (
+      sym room-answered,
+      rw room-answered (put-laid _ p shared-fits),
+      rw room-answered (put-laid _ q ours-fits),
+      rw room-answered (put-laid _ r theirs-fits),
+    )
 
 -- both lists are accepted where the call goes on
 pub both-accepted : (pool ours theirs : List ℕ) → listsVerdict pool ours theirs ≡ accepted → (listVerdict pool ours 0 ≡ accepted) × (listVerdict pool theirs 1 ≡ accepted)

@@ -14,18 +14,18 @@ use Rattle.key_order.proofs.Line.{size}
 use Rattle.query_item.specs.declared.RangeSetItem.{RangeSetItem}
 use Rattle.query_item.specs.declared.RangeSet.{RangeSet}
 use Rattle.query_item.specs.Items.{itemSize}
-use Rattle.query_item.specs.Boundaries.{compareIn, setAt}
-use Rattle.query_item.proofs.Laws.{rankIn, at-most-rank, rank-says-in, whole-upright}
+use Rattle.query_item.specs.Boundaries.{compareIn, setAt, toQueryItem}
+use Rattle.query_item.proofs.Laws.{rankIn, at-most-rank, rank-says-in}
 use Rattle.item_check.specs.Checks.{itemsOf}
 use Rattle.item_check.proofs.Laws.{AcceptedList}
 use Rattle.intervals.proofs.Laws.{AboveOf, Meeting, Cutting}
 use Rattle.intervals.proofs.Laws.{sweepOf, sweep-first, sweep-second, sweep-nil, sweep-is-shared, sweep-skip}
 use Rattle.intervals.proofs.Laws.{stripOf, strip-first, strip-second, strip-nil, strip-is-without, strip-skip, above-le}
 use Rattle.intersect_many.specs.declared.ManyCounts.{ManyCounts}
-use Rattle.intersect.specs.Pair.{meetSets, leftOver}
+use Rattle.intersect.specs.Pair.{before, meetSets, leftOver, asItems}
 use Rattle.intersect_many.specs.Lists.{setsOf, convertAll, sharedItems, cutSets, onlyItems}
 use Rattle.intersect_many.specs.Sweep.{rightSet, setsLeft, restLeft, Put, Turn}
-use Rattle.intersect_many.proofs.Pieces.{convert-append, meet-few, left-few}
+use Rattle.intersect_many.proofs.Pieces.{convert-append, convert-whole, put-none-converted, meet-few, left-few}
 use Rattle.intersect_many.proofs.Ranked as ranked
 use Rattle.intersect_many.proofs.Written.{Left, left-start, left-put, left-as}
 use Rattle.intersect_many.proofs.Rests.{sets-all, sets-end, sets-more, rest-end, rest-more, rest-whole}
@@ -84,6 +84,7 @@ module _ (pool : List ℕ) where
     pub left : Left (onlyItems pool own other) out₀ 0 out n (convertAll pool (strip (restLeft own i x) (setsLeft other j)))
     pub ascends : Ascends 0 (restLeft own i x)
     pub same-end : x .end ≡ setAt own i .end
+    pub above : rk (setAt own i .start) ≤ rk (x .start)
 
   pub only-start : (own other out : List ℕ) → Ascends 0 (setsLeft own 0) → Ascends 0 (setsLeft other 0) → Only own other out out 0 0 0 (setAt own 0)
   unfolding onlyItems
@@ -92,6 +93,7 @@ module _ (pool : List ℕ) where
         (ap (convertAll pool) (rw (rest-whole own 0, sets-all own, sets-all other) (sym (strip-is-without cutting (setsOf own) (setsOf other) (rw sets-all at a) (rw sets-all at b)))));
     ascends = rw (rest-whole own 0) a;
     same-end = refl;
+    above = le-refl (rk (setAt own 0 .start));
   }
 
   module _ (own other out₀ : List ℕ) {out out′ : List ℕ} {n n′ : ℕ} (i j : ℕ) (x : RangeSet) (v : Only own other out₀ out n i j x)
@@ -112,6 +114,7 @@ module _ (pool : List ℕ) where
           p;
       ascends = rw (rest-whole own (i + 1)) (next-ascends-0 own i hi a);
       same-end = refl;
+      above = le-refl (rk (setAt own (i + 1) .start));
     }
 
     -- the other's item ends first
@@ -133,6 +136,7 @@ module _ (pool : List ℕ) where
             rw (cutting .right-high x (setAt other j) (rest .1) (item .1) (omega arith)) (rest .2),
           );
           same-end = ranked.right-set-end pool (size pool) (le-refl (size pool)) x (setAt other j) ∙ v .same-end;
+          above = omega (arith, v .above, ranked.right-set-low pool (size pool) (le-refl (size pool)) x (setAt other j) (rest .1) (item .1) (omega arith));
         }
 
     -- both end together
@@ -146,6 +150,7 @@ module _ (pool : List ℕ) where
               (rw (sets-more other j hj) at b))));
           ascends = next .ascends;
           same-end = refl;
+          above = next .above;
         }
 
   -- the other list has ended, or this one
@@ -245,12 +250,37 @@ module _ (pool : List ℕ) where
       (v : Swept ours theirs both₀ mine₀ yours₀ both mine yours n i j x y)
       (hi : i < length ours / itemSize) (hj : j < length theirs / itemSize)
       (a b : RangeSet) (at-a : a ≡ setAt ours i) (at-b : b ≡ setAt theirs j) where
-    pub swept-turn : Turn pool a b x y n
-    swept-turn = record {
-      our-upright = rw at-a (whole-upright pool (size pool) (le-refl (size pool)) (setAt ours i) ((rw (sets-more ours i hi) at (v .our-ascends)) .1));
-      their-upright = rw at-b (whole-upright pool (size pool) (le-refl (size pool)) (setAt theirs j) ((rw (sets-more theirs j hj) at (v .their-ascends)) .1));
-      our-end = v .our-only .same-end ∙ rw at-a;
-      their-end = v .their-only .same-end ∙ rw at-b;
+    good-a : Good a
+    good-a = rw at-a ((rw (sets-more ours i hi) at (v .our-ascends)) .1)
+
+    good-b : Good b
+    good-b = rw at-b ((rw (sets-more theirs j hj) at (v .their-ascends)) .1)
+
+    good-x : Good x
+    good-x = (rw (rest-more ours i x hi) at (v .our-only .ascends)) .1
+
+    good-y : Good y
+    good-y = (rw (rest-more theirs j y hj) at (v .their-only .ascends)) .1
+
+    above-x : rk (a .start) ≤ rk (x .start)
+    above-x = rw at-a (v .our-only .above)
+
+    above-y : rk (b .start) ≤ rk (y .start)
+    above-y = rw at-b (v .their-only .above)
+
+    end-x : x .end ≡ a .end
+    end-x = v .our-only .same-end ∙ rw at-a
+
+    end-y : y .end ≡ b .end
+    end-y = v .their-only .same-end ∙ rw at-b
+
+    -- the two meet
+    pub swept-turn : (ends : Ordering) → ends ≡ compareIn pool (a .end) (b .end) → before pool a b ≡ false → before pool b a ≡ false → Turn pool ends a b x y n
+    swept-turn ends e f g = record {
+      ends-are = e;
+      shared = ranked.meet-met pool (size pool) (le-refl (size pool)) a b f g;
+      our-left = ranked.left-known pool (size pool) (le-refl (size pool)) a b x good-a good-b good-x end-x above-x f;
+      their-left = ranked.left-known-past pool (size pool) (le-refl (size pool)) a b y good-a good-b good-y end-y above-y g;
       shared-few = omega (arith, v);
       ours-few = omega (arith, v);
       theirs-few = omega (arith, v);
@@ -329,3 +359,27 @@ module _ (pool : List ℕ) where
             our-ascends = next-ascends-0 ours i hi (v .our-ascends);
             their-ascends = next-ascends-0 theirs j hj (v .their-ascends);
           }
+
+    -- ours stands before theirs: what is left of it is ours alone
+    pub swept-before : (mine′ : List ℕ) (n′ : ManyCounts) (x′ : RangeSet) → before pool a b ≡ true → n′ .«in_both» ≡ n .«in_both» → n′ .theirs ≡ n .theirs
+        → Put mine (n .ours) (asItems (toQueryItem pool x)) mine′ (n′ .ours) → x′ ≡ setAt ours (i + 1)
+        → Swept ours theirs both₀ mine₀ yours₀ both mine′ yours n′ (i + 1) j x′ y
+    swept-before mine′ n′ x′ f p q r g =
+        let k = ranked.apart pool (size pool) (le-refl (size pool)) a b x y good-a good-b good-x good-y end-x above-y f in
+        swept-less both mine′ yours n′
+        (rw (p, k .shared) (put-none-converted pool both (n .«in_both»)))
+        (rw (k .whole) (rw (← convert-whole pool x) at r))
+        (rw (q, k .none) (put-none-converted pool yours (n .theirs)))
+        x′ y (k .sooner) g (sym (k .kept))
+
+    -- and theirs before ours
+    pub swept-after : (yours′ : List ℕ) (n′ : ManyCounts) (y′ : RangeSet) → before pool b a ≡ true → n′ .«in_both» ≡ n .«in_both» → n′ .ours ≡ n .ours
+        → Put yours (n .theirs) (asItems (toQueryItem pool y)) yours′ (n′ .theirs) → y′ ≡ setAt theirs (j + 1)
+        → Swept ours theirs both₀ mine₀ yours₀ both mine yours′ n′ i (j + 1) x y′
+    swept-after yours′ n′ y′ f p q r g =
+        let k = ranked.apart pool (size pool) (le-refl (size pool)) b a y x good-b good-a good-y good-x end-y above-x f in
+        swept-greater both mine yours′ n′
+        (rw (p, k .shared-past) (put-none-converted pool both (n .«in_both»)))
+        (rw (q, k .none) (put-none-converted pool mine (n .ours)))
+        (rw (k .whole) (rw (← convert-whole pool y) at r))
+        x y′ (k .sooner) (sym (k .kept)) g

@@ -63,9 +63,11 @@ listsVerdict pool ours theirs = andThen (poolVerdict pool) (bothVerdict pool our
 abbrev pub passes : ℕ → List ℕ → Bool
 passes count out = ltb (length out / itemSize) count
 
+abbrev pub lacksRoom : ManyCounts → List ℕ → List ℕ → List ℕ → Bool
+lacksRoom c shared ours theirs = passes (c .«in_both») shared || passes (c .ours) ours || passes (c .theirs) theirs
+
 abbrev pub roomVerdict : ManyCounts → List ℕ → List ℕ → List ℕ → Verdict
-roomVerdict c shared ours theirs =
-    cond (passes (c .«in_both») shared || passes (c .ours) ours || passes (c .theirs) theirs) (refused 6 0 0) accepted
+roomVerdict c shared ours theirs = cond (lacksRoom c shared ours theirs) (refused 6 0 0) accepted
 
 abbrev pub countsOf : List ℕ → List ℕ → List ℕ → ManyCounts
 countsOf pool ours theirs =

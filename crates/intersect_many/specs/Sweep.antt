@@ -2,14 +2,18 @@
 use Prim.Native.Nat.{ℕ, suc, _+_, _-_, _/_, _≤_}
 use mathlib.Core.Path.{_≡_}
 use mathlib.Core.List.{List, [], _∷_, map}
-use mathlib.Core.Bool.{true, cond}
+use mathlib.Core.Bool.{true, cond, not}
 use Rattle.query_item.specs.declared.QueryItem.{QueryItem}
 use Rattle.query_item.specs.declared.RangeSet.{RangeSet}
 use lib.ListN.{length}
 use Rattle.query_item.specs.Items.{itemSize, itemsFrom, wordsOf, withItem}
-use Rattle.query_item.specs.Boundaries.{invertOf, fromTo, rangeOf, upright}
+use Rattle.query_item.specs.Boundaries.{compareIn, invertOf, fromTo, rangeOf}
+use Rattle.key_order.specs.declared.Ordering.{Ordering}
+use Rattle.key_order.specs.Order.{isLess, isAtMost}
+use Rattle.intersect.specs.Pair.{before, overlap, meetSets, leftPart, leftOver}
 use Rattle.intersect_many.specs.declared.ManyCounts.{ManyCounts}
-use Rattle.intersect.specs.Pair.{before}
+use Rattle.intersect_many.specs.declared.Stand.{Stand}
+use Rattle.intersect_many.specs.declared.Stand.the-variants.{Before, After, Meets}
 
 -- items written one after another from index n on, as far as there is room
 unfoldable pub putAll : List ℕ → ℕ → List QueryItem → List ℕ
@@ -36,12 +40,23 @@ pub record Put (out : List ℕ) (n : ℕ) (Q : List QueryItem) (out′ : List �
   pub count : n′ ≡ n + length Q
   pub words : out′ ≡ putAll out n Q
 
--- what a turn may count on: two upright ranges, what is left of each with its end, and counts that are not near the limit of a number
-pub record Turn (pool : List ℕ) (a b x y : RangeSet) (n : ManyCounts) : Type 0 where
-  pub our-upright : upright pool a ≡ true
-  pub their-upright : upright pool b ≡ true
-  pub our-end : x .end ≡ a .end
-  pub their-end : y .end ≡ b .end
+-- no list has more items than both lists together
+pub record Few (ours theirs : List ℕ) (n : ManyCounts) : Type 0 where
+  pub shared : n .«in_both» ≤ length ours / itemSize + length theirs / itemSize
+  pub our-only : n .ours ≤ length ours / itemSize + length theirs / itemSize
+  pub their-only : n .theirs ≤ length ours / itemSize + length theirs / itemSize
+
+-- how two ranges stand
+abbrev pub standOf : List ℕ → RangeSet → RangeSet → Stand
+standOf pool a b = cond (before pool a b) Before (cond (before pool b a) After (Meets (compareIn pool (a .end) (b .end))))
+
+-- what a turn may count on where a and b meet: what x and y, which are left of them, have below the other is known by the starts of a and b, and
+-- the counts are not near the limit of a number
+pub record Turn (pool : List ℕ) (ends : Ordering) (a b x y : RangeSet) (n : ManyCounts) : Type 0 where
+  pub ends-are : ends ≡ compareIn pool (a .end) (b .end)
+  pub shared : meetSets pool a b ≡ overlap pool a b ∷ []
+  pub our-left : leftOver pool x b ≡ cond (isLess (compareIn pool (a .start) (b .start))) (leftPart pool x b) []
+  pub their-left : leftOver pool y a ≡ cond (not (isAtMost (compareIn pool (a .start) (b .start)))) (leftPart pool y a) []
   pub shared-few : n .«in_both» ≤ 4096
   pub ours-few : n .ours ≤ 4096
   pub theirs-few : n .theirs ≤ 4096

@@ -3,32 +3,34 @@
 //
 // One pass over both lists with two indexes. What is left of our item and of theirs, at the indexes, is kept beside them.
 ghost use mathlib.Core.Path.{_≡_};
-ghost use mathlib.Core.Bool.{true};
+ghost use mathlib.Core.Bool.{cond};
+ghost use mathlib.Core.List.{[]};
 ghost use Prim.Native.Nat.{_+_, _/_, _≤_};
 ghost use lib.ListN.{length};
 ghost use Rattle.query_item.specs.Items.{itemSize};
-ghost use Rattle.query_item.specs.Boundaries.{upright};
 ghost use Rattle.item_check.specs.Checks.{verdictOf, accepted, listVerdict};
-ghost use Rattle.intersect.specs.Pair.{before, meetSets, leftOver, asItems};
-ghost use Rattle.intersect_many.specs.Lists.{convertAll, sharedItems, onlyItems, manyOf, bothVerdict, listsVerdict, passes, countsOf, roomAnswer, manyAnswer, written};
-ghost use Rattle.intersect_many.specs.Sweep.{rightSet, restLeft, Put, Turn};
+ghost use Rattle.intersect.specs.Pair.{meetSets, leftPart, leftOver, asItems};
+ghost use Rattle.intersect_many.specs.Lists.{convertAll, sharedItems, onlyItems, manyOf, bothVerdict, listsVerdict, passes, lacksRoom, countsOf, roomAnswer, manyAnswer, written};
+ghost use Rattle.intersect_many.specs.Sweep.{rightSet, restLeft, standOf, Put, Few, Turn};
 use intersect::pair::is_before;
 use intersect::pair::item_of;
-use intersect::pair::left_by;
-use intersect::pair::meet_by;
+use intersect::pair::left_part;
+use intersect::pair::overlap_by;
 use item_check::Checked;
 use item_check::Refusal;
 use item_check::check_pool;
 use item_check::check_words;
 use item_check::set_at;
+use item_words::ITEM_SIZE;
+use item_words::words_of;
+use item_words::write_item;
 use key_order::Ordering;
 use query_item::MaybeItem;
 use query_item::RangeSet;
 use query_item::boundary::compare_in;
 use query_item::boundary::invert_in;
-use query_item::item::ITEM_SIZE;
-use query_item::item::words_of;
-use query_item::item::write_item;
+use query_item::boundary::is_at_most;
+use query_item::boundary::is_less;
 
 // How many items the three lists have.
 pub struct ManyCounts {
@@ -41,6 +43,13 @@ pub struct ManyCounts {
 pub enum ManyAnswer {
     Counts(ManyCounts),
     Refused(Refusal),
+}
+
+// How two ranges stand: ours before theirs, after it, or meeting it, with the order of their ends.
+enum Stand {
+    Before,
+    After,
+    Meets(Ordering),
 }
 
 // What two lists share, what ours keeps without theirs, and what theirs keeps without ours, written to the front of three lists, with their
@@ -93,25 +102,35 @@ fn right_set(pool: &[u8], a: RangeSet, b: RangeSet) -> RangeSet
     }
 }
 
-// What two ranges share, as an item.
-fn meet_item(pool: &[u8], first: bool, second: bool, a: RangeSet, b: RangeSet) -> MaybeItem
-    requires { ⌜ (first ≡ before (now pool) a b) × (second ≡ before (now pool) b a) ⌝ }
-    ensures { λ r. ⌜ asItems r ≡ convertAll (now (pool .entry)) (meetSets (now (pool .entry)) a b) ⌝ }
+// How our range stands to theirs: one comparison where ours stands before theirs.
+fn how_they_stand(pool: &[u8], a: RangeSet, b: RangeSet) -> Stand
+    ensures { λ r. ⌜ r ≡ standOf (now (pool .entry)) a b ⌝ }
 {
-    item_of(pool, meet_by(pool, first | second, a, b))
+    if is_before(pool, a, b) {
+        return Stand::Before;
+    }
+    if is_before(pool, b, a) {
+        return Stand::After;
+    }
+    let our_end = a.end;
+    let their_end = b.end;
+    Stand::Meets(compare_in(pool, our_end, their_end))
 }
 
-// What of a stands left of b, as an item.
-fn left_item(pool: &[u8], first: bool, a: RangeSet, b: RangeSet) -> MaybeItem
-    requires { ⌜ (first ≡ before (now pool) a b) × (upright (now pool) b ≡ true) ⌝ }
-    ensures { λ r. ⌜ asItems r ≡ convertAll (now (pool .entry)) (leftOver (now (pool .entry)) a b) ⌝ }
+// What of a starts below b, as an item, where it is not known that none does.
+fn left_item(pool: &[u8], may: bool, a: RangeSet, b: RangeSet) -> MaybeItem
+    ensures { λ r. ⌜ asItems r ≡ convertAll (now (pool .entry)) (cond may (leftPart (now (pool .entry)) a b) []) ⌝ }
 {
-    item_of(pool, left_by(pool, first, a, b))
+    if may {
+        return item_of(pool, left_part(pool, a, b));
+    }
+    MaybeItem::NoItem
 }
 
-// A turn's items: what a and b share, and what of each, of which x and y are left, stands left of the other.
+// A turn's items where a and b meet: what they share, and what of each, of which x and y are left, starts below the other.
 fn emit(
     pool: &[u8],
+    ends: Ordering,
     a: RangeSet,
     b: RangeSet,
     x: RangeSet,
@@ -121,17 +140,22 @@ fn emit(
     theirs: &mut [u32],
     n: ManyCounts,
 ) -> ManyCounts
-    requires { ⌜ Turn (now pool) a b x y n ⌝ }
+    requires { ⌜ Turn (now pool) ends a b x y n ⌝ }
     ensures { λ r. ⌜ Put (now (both .entry)) (n .«in_both») (convertAll (now (pool .entry)) (meetSets (now (pool .entry)) a b)) (now (both .exit)) (r .«in_both») ⌝ }
     ensures { λ r. ⌜ Put (now (ours .entry)) (n .ours) (convertAll (now (pool .entry)) (leftOver (now (pool .entry)) x b)) (now (ours .exit)) (r .ours) ⌝ }
     ensures { λ r. ⌜ Put (now (theirs .entry)) (n .theirs) (convertAll (now (pool .entry)) (leftOver (now (pool .entry)) y a)) (now (theirs .exit)) (r .theirs) ⌝ }
 {
-    let first = is_before(pool, a, b);
-    let second = is_before(pool, b, a);
+    let our_start = a.start;
+    let their_start = b.start;
+    let starts = compare_in(pool, our_start, their_start);
     ManyCounts {
-        in_both: put(both, n.in_both, meet_item(pool, first, second, a, b)),
-        ours: put(ours, n.ours, left_item(pool, first, x, b)),
-        theirs: put(theirs, n.theirs, left_item(pool, second, y, a)),
+        in_both: put(
+            both,
+            n.in_both,
+            overlap_by(starts, ends, a, b).to_query_item(pool),
+        ),
+        ours: put(ours, n.ours, left_item(pool, is_less(starts), x, b)),
+        theirs: put(theirs, n.theirs, left_item(pool, !is_at_most(starts), y, a)),
     }
 }
 
@@ -153,6 +177,26 @@ fn put_rest(pool: &[u8], words: &[u32], i: usize, x: RangeSet, out: &mut [u32], 
     m
 }
 
+fn with_ours(n: ManyCounts, ours: usize) -> ManyCounts
+    ensures { λ r. ⌜ (r .«in_both» ≡ n .«in_both») × (r .ours ≡ ours) × (r .theirs ≡ n .theirs) ⌝ }
+{
+    ManyCounts {
+        in_both: n.in_both,
+        ours,
+        theirs: n.theirs,
+    }
+}
+
+fn with_theirs(n: ManyCounts, theirs: usize) -> ManyCounts
+    ensures { λ r. ⌜ (r .«in_both» ≡ n .«in_both») × (r .ours ≡ n .ours) × (r .theirs ≡ theirs) ⌝ }
+{
+    ManyCounts {
+        in_both: n.in_both,
+        ours: n.ours,
+        theirs,
+    }
+}
+
 // The three lists of two accepted lists, written as far as there is room, and their counts.
 fn sweep(
     pool: &[u8],
@@ -166,6 +210,7 @@ fn sweep(
     ensures { λ r. ⌜ Put (now (both .entry)) 0 (sharedItems (now (pool .entry)) (now (ours .entry)) (now (theirs .entry))) (now (both .exit)) (r .«in_both») ⌝ }
     ensures { λ r. ⌜ Put (now (mine .entry)) 0 (onlyItems (now (pool .entry)) (now (ours .entry)) (now (theirs .entry))) (now (mine .exit)) (r .ours) ⌝ }
     ensures { λ r. ⌜ Put (now (yours .entry)) 0 (onlyItems (now (pool .entry)) (now (theirs .entry)) (now (ours .entry))) (now (yours .exit)) (r .theirs) ⌝ }
+    ensures { λ r. ⌜ Few (now (ours .entry)) (now (theirs .entry)) r ⌝ }
 {
     let our_count = ours.len() / ITEM_SIZE;
     let their_count = theirs.len() / ITEM_SIZE;
@@ -181,25 +226,37 @@ fn sweep(
     while (i < our_count) & (j < their_count) {
         let a = set_at(ours, i);
         let b = set_at(theirs, j);
-        n = emit(pool, a, b, x, y, both, mine, yours, n);
-        let our_end = a.end;
-        let their_end = b.end;
-        match compare_in(pool, our_end, their_end) {
-            Ordering::Less => {
-                y = right_set(pool, y, a);
+        match how_they_stand(pool, a, b) {
+            Stand::Before => {
+                n = with_ours(n, put(mine, n.ours, x.to_query_item(pool)));
                 i += 1;
                 x = set_at(ours, i);
             }
-            Ordering::Greater => {
-                x = right_set(pool, x, b);
+            Stand::After => {
+                n = with_theirs(n, put(yours, n.theirs, y.to_query_item(pool)));
                 j += 1;
                 y = set_at(theirs, j);
             }
-            Ordering::Equal => {
-                i += 1;
-                j += 1;
-                x = set_at(ours, i);
-                y = set_at(theirs, j);
+            Stand::Meets(ends) => {
+                n = emit(pool, ends, a, b, x, y, both, mine, yours, n);
+                match ends {
+                    Ordering::Less => {
+                        y = right_set(pool, y, a);
+                        i += 1;
+                        x = set_at(ours, i);
+                    }
+                    Ordering::Greater => {
+                        x = right_set(pool, x, b);
+                        j += 1;
+                        y = set_at(theirs, j);
+                    }
+                    Ordering::Equal => {
+                        i += 1;
+                        j += 1;
+                        x = set_at(ours, i);
+                        y = set_at(theirs, j);
+                    }
+                }
             }
         }
     }
@@ -240,13 +297,21 @@ fn check_both(pool: &[u8], ours: &[u32], theirs: &[u32]) -> Checked
     }
 }
 
+// Whether one of the three lists has less room than a count asks for.
+fn lack_room(n: ManyCounts, both: &[u32], mine: &[u32], yours: &[u32]) -> bool
+    ensures { λ r. ⌜ r ≡ lacksRoom n (now (both .entry)) (now (mine .entry)) (now (yours .entry)) ⌝ }
+{
+    passes_room(n.in_both, both) | passes_room(n.ours, mine) | passes_room(n.theirs, yours)
+}
+
 fn passes_room(count: usize, out: &[u32]) -> bool
     ensures { λ r. ⌜ r ≡ passes count (now (out .entry)) ⌝ }
 {
     out.len() / ITEM_SIZE < count
 }
 
-// The room of the three lists, known before anything is written; then the lists.
+// The lists at once where there is room for the most that they can have; else the room that they need, known before anything is written, and
+// then the lists.
 fn write_lists(
     pool: &[u8],
     ours: &[u32],
@@ -261,8 +326,17 @@ fn write_lists(
     ensures { λ _. ⌜ now (mine .exit) ≡ written (roomAnswer (now (pool .entry)) (now (ours .entry)) (now (theirs .entry)) (now (both .entry)) (now (mine .entry)) (now (yours .entry))) (onlyItems (now (pool .entry)) (now (ours .entry)) (now (theirs .entry))) (now (mine .entry)) ⌝ }
     ensures { λ _. ⌜ now (yours .exit) ≡ written (roomAnswer (now (pool .entry)) (now (ours .entry)) (now (theirs .entry)) (now (both .entry)) (now (mine .entry)) (now (yours .entry))) (onlyItems (now (pool .entry)) (now (theirs .entry)) (now (ours .entry))) (now (yours .entry)) ⌝ }
 {
+    let all = ours.len() / ITEM_SIZE + theirs.len() / ITEM_SIZE;
+    let most = ManyCounts {
+        in_both: all,
+        ours: all,
+        theirs: all,
+    };
+    if !lack_room(most, both, mine, yours) {
+        return ManyAnswer::Counts(sweep(pool, ours, theirs, both, mine, yours));
+    }
     let n = count(pool, ours, theirs);
-    if passes_room(n.in_both, both) | passes_room(n.ours, mine) | passes_room(n.theirs, yours) {
+    if lack_room(n, both, mine, yours) {
         return ManyAnswer::Refused(Refusal {
             number: 6,
             side: 0,

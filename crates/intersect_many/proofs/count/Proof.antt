@@ -1,5 +1,5 @@
 -- `intersect_many::count` meets its contract: the pass counts what it has no room to write. Assumes nothing.
-use Rattle.intersect_many.proofs.Room.{put-count}
+use Rattle.intersect_many.proofs.Room.{counted}
 use borrow.Author.Needs.{needs}
 use Rattle.intersect_many.proofs.count.Statement.{statement}
 use Rattle.intersect_many.proofs.count.Tie as tie
@@ -7,10 +7,7 @@ use Rattle.intersect_many.proofs.count.Tie as tie
 returns : tie.Need-returns
 returns c =
     let swept = c .before .before .before .sweep .ensures in
-    let p = put-count _ (swept .0) in
-    let q = put-count _ (swept .1 .0) in
-    let r = put-count _ (swept .1 .1) in
-    λ i. record { «in_both» = p i; ours = q i; theirs = r i }
+    counted _ _ _ _ (swept .0) (swept .1 .0) (swept .1 .1 .0)
 
 pub count-spec : {M : Type 1} → statement M
 count-spec =

@@ -1,24 +1,26 @@
 -- `intersect_many::emit` meets its contract: three items at most, each written to its list. Assumes nothing.
-use mathlib.Core.Path.{_∙_}
+use Rattle.intersect_many.proofs.Pieces.{convert-whole}
+use mathlib.Core.Path.{_≡_, ap, _∙_}
+use Rattle.query_item.specs.Boundaries.{toQueryItem}
+use Rattle.intersect.specs.Pair.{overlap}
 use borrow.Author.Needs.{needs}
 use Rattle.intersect_many.proofs.emit.Statement.{statement}
 use Rattle.intersect_many.proofs.emit.Tie as tie
 
-left-item-requires : tie.Need-left-item-requires
-left-item-requires c κs =
-    let pre = c .before .before .before .before .before .before .before .before .before .before .before .before .pre in
-    (c .before .before .before .before .before .before .before .is-before .ensures ∙ rw (pre .our-end), pre .their-upright)
-
-left-item-requires-2 : tie.Need-left-item-requires-2
-left-item-requires-2 c κs =
-    let pre = c .before .before .before .before .before .before .before .before .before .before .before .before .before .before .before .before .before .pre in
-    (c .before .before .before .before .before .before .before .before .before .before .before .is-before2 .ensures ∙ rw (pre .their-end), pre .our-upright)
-
 returns : tie.Need-returns
-returns c = (
-  rw (← c .before .before .before .before .before .before .before .before .before .before .before .before .before .meet-item .ensures) (c .before .before .before .before .before .before .before .before .before .before .before .before .put .ensures),
-  (rw (← c .before .before .before .before .before .before .before .before .left-item .ensures) (c .before .before .before .before .before .before .before .put2 .ensures), rw (← c .before .before .before .left-item2 .ensures) (c .before .before .put3 .ensures)),
-)
+returns c =
+    let start = c .before .before .before .before .before .before .before .before .before .before .before .before .before .before .before .before .before .before .before .before .before .before .before in
+    let turn = start .pre in
+    let starts = c .before .before .before .before .before .before .before .before .before .before .before .before .before .before .before .before .before .before .compare-in .ensures in
+    let met : c .before .before .before .before .before .before .before .before .before .before .before .before .before .before .before .before .overlap-by .result ≡ overlap (start .args .pool .now) (start .args .a) (start .args .b) = c .before .before .before .before .before .before .before .before .before .before .before .before .before .before .before .before .overlap-by .ensures ∙ rw (starts, turn .ends-are) in
+    let item : c .before .before .before .before .before .before .before .before .before .before .before .before .before .before .before .to-query-item .result ≡ toQueryItem (start .args .pool .now) (overlap (start .args .pool .now) (start .args .a) (start .args .b)) =
+    c .before .before .before .before .before .before .before .before .before .before .before .before .before .before .before .to-query-item .ensures ∙ ap (toQueryItem (start .args .pool .now)) met in (
+      rw (turn .shared, convert-whole (start .args .pool .now), ← item) (c .before .before .before .before .before .before .before .before .before .before .before .before .before .before .put .ensures),
+      (
+        rw (turn .our-left, ← starts, ← c .before .before .before .before .before .before .before .before .before .before .is-less .ensures, ← c .before .before .before .before .before .before .before .before .before .left-item .ensures) (c .before .before .before .before .before .before .before .before .put2 .ensures),
+        rw (turn .their-left, ← starts, ← c .before .before .before .before .is-at-most .ensures, ← c .before .before .before .left-item2 .ensures) (c .before .before .put3 .ensures),
+      ),
+    )
 
 pub emit-spec : {M : Type 1} → statement M
 emit-spec =
@@ -28,9 +30,11 @@ emit-spec =
     (λ c κs. search needs)
     (λ c κs. search needs)
     (λ c κs. search needs)
-    left-item-requires
     (λ c κs. search needs)
-    left-item-requires-2
+    (λ c κs. search needs)
+    (λ c κs. search needs)
+    (λ c κs. search needs)
+    (λ c κs. search needs)
     (λ c κs. search needs)
     (λ c. search needs)
     (λ c. search needs)

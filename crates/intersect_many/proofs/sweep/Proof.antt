@@ -1,6 +1,3 @@
--- `intersect_many::sweep` meets its contract: the invariant: at the two indexes each of the three lists has left to write what the pass
--- over what is left of both lists gives
--- (`Swept`). The measure is how many items are left in both lists. Assumes nothing.
 use Prim.Native.Nat.{ℕ, _+_, _-_, _/_, _≤_, _<_}
 use mathlib.Core.Path.{_≡_, refl, sym, _∙_}
 use mathlib.Core.Bool.{Bool, true, false, _&&_, false≢true}
@@ -13,9 +10,22 @@ use borrow.Author.Tests.{ltb-true, ltb-false}
 use Rattle.query_item.specs.Items.{itemSize}
 use Rattle.item_check.proofs.Laws.{accepted-list}
 use Rattle.intersect_many.proofs.Written.{left-done, left-finish}
-use Rattle.intersect_many.proofs.Swept.{Swept, ranks-say, only-end, shared-end, swept-start, swept-turn, swept-less, swept-greater, swept-equal}
+use Rattle.intersect_many.proofs.Rests.{rest-few}
+use Rattle.intersect_many.proofs.Swept.{Swept, ranks-say, only-end, shared-end, swept-start, swept-turn, swept-before, swept-after, swept-less, swept-greater, swept-equal}
+use Rattle.intersect_many.proofs.Stands.{stands-before, stands-after, stands-meets}
 use Rattle.intersect_many.proofs.sweep.Statement.{statement}
 use Rattle.intersect_many.proofs.sweep.Tie as tie
+use Rattle.intersect_many.proofs.sweep.Reads as reads
+use Rattle.intersect_many.proofs.sweep.Lts as lts
+use Rattle.intersect_many.proofs.emit.Reads as emit-reads
+use Rattle.intersect_many.proofs.how_they_stand.Reads as how-they-stand-reads
+use Rattle.intersect_many.proofs.put.Reads as put-reads
+use Rattle.intersect_many.proofs.put_rest.Reads as put-rest-reads
+use Rattle.intersect_many.proofs.right_set.Reads as right-set-reads
+use Rattle.intersect_many.proofs.with_ours.Reads as with-ours-reads
+use Rattle.intersect_many.proofs.with_theirs.Reads as with-theirs-reads
+use Rattle.item_check.proofs.set_at.Reads as set-at-reads
+use Rattle.query_item.proofs.RangeSet.to_query_item.Reads as to-query-item-reads
 
 inside : (i j m n : ℕ) → ltb i m && ltb j n ≡ true → (i < m) × (j < n)
 inside i j m n e = go (ltb i m) (ltb j n) refl refl e
@@ -48,6 +58,15 @@ test : (c : tie.In-loop Inv-loop μ-loop)
     → (c .before .loop .i < length (c .before .before .before .before .before .before .before .before .before .before .args .ours .now) / itemSize) × (c .before .loop .j < length (c .before .before .before .before .before .before .before .before .before .before .args .theirs .now) / itemSize)
 test c = inside (c .before .loop .i) (c .before .loop .j) _ _ (c .loop-test .taken)
 
+-- src/lib.rt:223:9
+set-at-requires : tie.Need-set-at-requires Inv-loop μ-loop
+set-at-requires c κs = search needs
+
+-- src/lib.rt:224:9
+set-at-requires-2 : tie.Need-set-at-requires-2 Inv-loop μ-loop
+set-at-requires-2 c κs = search needs
+
+-- src/lib.rt:225:5
 loop-holds : tie.Need-loop-holds Inv-loop μ-loop
 loop-holds c =
     let start = c .before .before .before .before .before .before .before .before in
@@ -56,77 +75,258 @@ loop-holds c =
     (accepted-list (start .args .pool .now) 1 (start .args .theirs .now) .0 (start .pre .1))
     refl refl refl (c .before .set-at .ensures) (c .set-at2 .ensures)
 
-emit-requires : tie.Need-emit-requires Inv-loop μ-loop
-emit-requires c κs =
-    let turn = c .before .before .before .before in
-    swept-turn _ _ _ _ _ _ _ _ _ _ _ _ _ _ (turn .before .before .loop .inv) (test (turn .before) .0) (test (turn .before) .1) _ _ (turn .set-at3 .ensures) (c .before .before .before .set-at4 .ensures)
+-- src/lib.rt:226:13
+set-at-requires-3 : tie.Need-set-at-requires-3 Inv-loop μ-loop
+set-at-requires-3 c κs = search needs
 
+-- src/lib.rt:227:13
+set-at-requires-4 : tie.Need-set-at-requires-4 Inv-loop μ-loop
+set-at-requires-4 c κs = search needs
+
+-- src/lib.rt:228:15
+how-they-stand-requires : tie.Need-how-they-stand-requires Inv-loop μ-loop
+how-they-stand-requires c κs = search needs
+
+-- src/lib.rt:230:38
+enum-told : tie.Need-enum-told Inv-loop μ-loop
+enum-told c = search needs
+
+-- src/lib.rt:230:52
+to-query-item-requires : tie.Need-to-query-item-requires Inv-loop μ-loop
+to-query-item-requires c κs = search needs
+
+-- src/lib.rt:230:34
+put-requires : tie.Need-put-requires Inv-loop μ-loop
+put-requires c κs = omega (arith, c .before .before .before .before .before .before .before .before .loop .inv, test (c .before .before .before .before .before .before .before))
+
+-- src/lib.rt:230:17
+with-ours-requires : tie.Need-with-ours-requires Inv-loop μ-loop
+with-ours-requires c κs = search needs
+
+-- src/lib.rt:231:17
 add-i : tie.Need-add-i Inv-loop μ-loop
-add-i c = omega (arith, test (c .before .before .before .before .before .before .before .before .before .before .before .before .before .before .before .before))
+add-i c = omega (arith, test (c .before .before .before .before .before .before .before .before .before .before .before))
 
+-- src/lib.rt:232:17
+set-at-requires-5 : tie.Need-set-at-requires-5 Inv-loop μ-loop
+set-at-requires-5 c κs = search needs
+
+-- src/lib.rt:225:5
 loop-less : tie.Need-loop-less Inv-loop μ-loop
-loop-less c = omega (arith, test (c .before .before .before .before .before .before .before .before .before .before .before .before .before .before .before .before .before))
+loop-less c = omega (arith, test (c .before .before .before .before .before .before .before .before .before .before .before .before))
 
+-- src/lib.rt:225:5
 loop-again : tie.Need-loop-again Inv-loop μ-loop
 loop-again c =
-    let emit = c .before .before .before .before .before .before .before .before .before .before .before .emit in
-    let turn = c .before .before .before .before .before .before .before .before .before .before .before .before .before .before .before .before in
-    let at = turn .before .before in
-    let both = test (turn .before) in
-    let said = c .before .before .before .before .compare-in .ensures in
-    swept-less _ _ _ _ _ _ _ _ _ _ _ _ _ _ (at .loop .inv) (both .0) (both .1) _ _ (turn .set-at3 .ensures) (c .before .before .before .before .before .before .before .before .before .before .before .before .before .before .before .set-at4 .ensures) _ _ _ _
-    (emit .ensures .0) (emit .ensures .1 .0) (emit .ensures .1 .1) _ _
-    (ranks-say (at .before .before .before .before .before .before .before .before .before .args .pool .now) (turn .set-at3 .result .end) (c .before .before .before .before .before .before .before .before .before .before .before .before .before .before .before .set-at4 .result .end) (sym said ∙ c .before .before .enum-told .given .1))
-    (c .set-at5 .ensures) (c .before .right-set .ensures)
+    let inside = c .before .before .before .before .before .before .before .before .before .before .before .before in
+    let at = inside .before in
+    let start = at .before .before .before .before .before .before .before .before .before in
+    let both = test inside in
+    let a = c .before .before .before .before .before .before .before .before .before .before .before .set-at3 in
+    let b = c .before .before .before .before .before .before .before .before .before .before .set-at4 in
+    let stand = c .before .before .before .before .before .before .before .before .before .how-they-stand in
+    let with = c .before .with-ours .ensures in
+    let put = c .before .before .before .before .put .ensures in
+    let item = c .before .before .before .before .before .to-query-item .ensures in
+    swept-before _ _ _ _ _ _ _ _ _ _ _ _ _ _ (at .loop .inv) (both .0) (both .1) _ _ (a .ensures) (b .ensures) _ _ _
+    (stands-before (start .args .pool .now) (a .result) (b .result) (sym (stand .ensures) ∙ c .before .before .before .before .before .before .before .enum-told .given .1))
+    (with .0) (with .2) (rw (with .1, ← item) put) (c .set-at5 .ensures)
 
+-- src/lib.rt:235:40
+enum-told-2 : tie.Need-enum-told-2 Inv-loop μ-loop
+enum-told-2 c = search needs
+
+-- src/lib.rt:235:57
+to-query-item-requires-2 : tie.Need-to-query-item-requires-2 Inv-loop μ-loop
+to-query-item-requires-2 c κs = search needs
+
+-- src/lib.rt:235:36
+put-requires-2 : tie.Need-put-requires-2 Inv-loop μ-loop
+put-requires-2 c κs = omega (arith, c .before .before .before .before .before .before .before .before .loop .inv, test (c .before .before .before .before .before .before .before))
+
+-- src/lib.rt:235:17
+with-theirs-requires : tie.Need-with-theirs-requires Inv-loop μ-loop
+with-theirs-requires c κs = search needs
+
+-- src/lib.rt:236:17
 add-j : tie.Need-add-j Inv-loop μ-loop
-add-j c = omega (arith, test (c .before .before .before .before .before .before .before .before .before .before .before .before .before .before .before .before))
+add-j c = omega (arith, test (c .before .before .before .before .before .before .before .before .before .before .before))
 
+-- src/lib.rt:237:17
+set-at-requires-6 : tie.Need-set-at-requires-6 Inv-loop μ-loop
+set-at-requires-6 c κs = search needs
+
+-- src/lib.rt:225:5
 loop-less-2 : tie.Need-loop-less-2 Inv-loop μ-loop
-loop-less-2 c = omega (arith, test (c .before .before .before .before .before .before .before .before .before .before .before .before .before .before .before .before .before))
+loop-less-2 c = omega (arith, test (c .before .before .before .before .before .before .before .before .before .before .before .before))
 
+-- src/lib.rt:225:5
 loop-again-2 : tie.Need-loop-again-2 Inv-loop μ-loop
 loop-again-2 c =
-    let emit = c .before .before .before .before .before .before .before .before .before .before .before .emit in
-    let turn = c .before .before .before .before .before .before .before .before .before .before .before .before .before .before .before .before in
-    let at = turn .before .before in
-    let both = test (turn .before) in
-    let said = c .before .before .before .before .compare-in .ensures in
-    swept-greater _ _ _ _ _ _ _ _ _ _ _ _ _ _ (at .loop .inv) (both .0) (both .1) _ _ (turn .set-at3 .ensures) (c .before .before .before .before .before .before .before .before .before .before .before .before .before .before .before .set-at4 .ensures) _ _ _ _
-    (emit .ensures .0) (emit .ensures .1 .0) (emit .ensures .1 .1) _ _
-    (ranks-say (at .before .before .before .before .before .before .before .before .before .args .pool .now) (turn .set-at3 .result .end) (c .before .before .before .before .before .before .before .before .before .before .before .before .before .before .before .set-at4 .result .end) (sym said ∙ c .before .before .enum-told2 .given .1))
-    (c .before .right-set2 .ensures) (c .set-at6 .ensures)
+    let inside = c .before .before .before .before .before .before .before .before .before .before .before .before in
+    let at = inside .before in
+    let start = at .before .before .before .before .before .before .before .before .before in
+    let both = test inside in
+    let a = c .before .before .before .before .before .before .before .before .before .before .before .set-at3 in
+    let b = c .before .before .before .before .before .before .before .before .before .before .set-at4 in
+    let stand = c .before .before .before .before .before .before .before .before .before .how-they-stand in
+    let with = c .before .with-theirs .ensures in
+    let put = c .before .before .before .before .put2 .ensures in
+    let item = c .before .before .before .before .before .to-query-item2 .ensures in
+    swept-after _ _ _ _ _ _ _ _ _ _ _ _ _ _ (at .loop .inv) (both .0) (both .1) _ _ (a .ensures) (b .ensures) _ _ _
+    (stands-after (start .args .pool .now) (a .result) (b .result) (sym (stand .ensures) ∙ c .before .before .before .before .before .before .before .enum-told2 .given .1))
+    (with .0) (with .1) (rw (with .2, ← item) put) (c .set-at6 .ensures)
 
+-- src/lib.rt:239:26
+enum-known-ends : tie.Need-enum-known-ends Inv-loop μ-loop
+enum-known-ends c = search needs
+
+-- src/lib.rt:240:17
+emit-requires : tie.Need-emit-requires Inv-loop μ-loop
+emit-requires c κs =
+    let inside = c .before .before .before .before .before .before .before .before .before in
+    let at = inside .before in
+    let start = at .before .before .before .before .before .before .before .before .before in
+    let both = test inside in
+    let a = c .before .before .before .before .before .before .before .before .set-at3 in
+    let b = c .before .before .before .before .before .before .before .set-at4 in
+    let stand = c .before .before .before .before .before .before .how-they-stand in
+    let meets = stands-meets (start .args .pool .now) (a .result) (b .result) _ (sym (stand .ensures) ∙ c .before .before .before .before .ends .given .1) in
+    swept-turn _ _ _ _ _ _ _ _ _ _ _ _ _ _ (at .loop .inv) (both .0) (both .1) _ _ (a .ensures) (b .ensures) _ (meets .0) (meets .1) (meets .2)
+
+-- src/lib.rt:243:25
+enum-told-3 : tie.Need-enum-told-3 Inv-loop μ-loop
+enum-told-3 c = search needs
+
+-- src/lib.rt:243:25
+right-set-requires : tie.Need-right-set-requires Inv-loop μ-loop
+right-set-requires c κs = search needs
+
+-- src/lib.rt:244:25
 add-i-2 : tie.Need-add-i-2 Inv-loop μ-loop
-add-i-2 c = omega (arith, test (c .before .before .before .before .before .before .before .before .before .before .before .before .before .before .before))
+add-i-2 c = omega (arith, test (c .before .before .before .before .before .before .before .before .before .before .before .before .before .before .before .before .before .before .before), c .before .before .before .before .before .before .before .before .before .before .before .before .before .before .before .before .before .before .before .before .loop .inv .our-size)
 
-add-j-2 : tie.Need-add-j-2 Inv-loop μ-loop
-add-j-2 c = omega (arith, test (c .before .before .before .before .before .before .before .before .before .before .before .before .before .before .before))
+-- src/lib.rt:245:25
+set-at-requires-7 : tie.Need-set-at-requires-7 Inv-loop μ-loop
+set-at-requires-7 c κs = search needs
 
+-- src/lib.rt:225:5
 loop-less-3 : tie.Need-loop-less-3 Inv-loop μ-loop
-loop-less-3 c = omega (arith, test (c .before .before .before .before .before .before .before .before .before .before .before .before .before .before .before .before .before))
+loop-less-3 c = omega (arith, test (c .before .before .before .before .before .before .before .before .before .before .before .before .before .before .before .before .before .before .before .before))
 
+-- src/lib.rt:225:5
 loop-again-3 : tie.Need-loop-again-3 Inv-loop μ-loop
 loop-again-3 c =
-    let emit = c .before .before .before .before .before .before .before .before .before .before .before .emit in
-    let turn = c .before .before .before .before .before .before .before .before .before .before .before .before .before .before .before .before in
-    let at = turn .before .before in
-    let both = test (turn .before) in
-    let said = c .before .before .before .before .compare-in .ensures in
-    swept-equal _ _ _ _ _ _ _ _ _ _ _ _ _ _ (at .loop .inv) (both .0) (both .1) _ _ (turn .set-at3 .ensures) (c .before .before .before .before .before .before .before .before .before .before .before .before .before .before .before .set-at4 .ensures) _ _ _ _
-    (emit .ensures .0) (emit .ensures .1 .0) (emit .ensures .1 .1) _ _
-    (ranks-say (at .before .before .before .before .before .before .before .before .before .args .pool .now) (turn .set-at3 .result .end) (c .before .before .before .before .before .before .before .before .before .before .before .before .before .before .before .set-at4 .result .end) (sym said ∙ c .before .before .enum-told3 .given .1))
-    (c .before .set-at7 .ensures) (c .set-at8 .ensures)
+    let inside = c .before .before .before .before .before .before .before .before .before .before .before .before .before .before .before .before .before .before .before .before in
+    let at = inside .before in
+    let start = at .before .before .before .before .before .before .before .before .before in
+    let both = test inside in
+    let a = c .before .before .before .before .before .before .before .before .before .before .before .before .before .before .before .before .before .before .before .set-at3 in
+    let b = c .before .before .before .before .before .before .before .before .before .before .before .before .before .before .before .before .before .before .set-at4 in
+    let stand = c .before .before .before .before .before .before .before .before .before .before .before .before .before .before .before .before .before .how-they-stand in
+    let emit = c .before .before .before .before .before .before .before .before .before .before .emit in
+    let meets = stands-meets (start .args .pool .now) (a .result) (b .result) _ (sym (stand .ensures) ∙ c .before .before .before .before .before .before .before .before .before .before .before .before .before .before .before .ends .given .1) in
+    swept-less _ _ _ _ _ _ _ _ _ _ _ _ _ _ (at .loop .inv) (both .0) (both .1) _ _ (a .ensures) (b .ensures) _ _ _ _ (emit .ensures .0) (emit .ensures .1 .0) (emit .ensures .1 .1) _ _
+    (ranks-say (start .args .pool .now) (a .result .end) (b .result .end) (sym (meets .0) ∙ c .before .before .enum-told3 .given .1))
+    (c .set-at7 .ensures) (c .before .right-set .ensures)
 
+-- src/lib.rt:248:25
+enum-told-4 : tie.Need-enum-told-4 Inv-loop μ-loop
+enum-told-4 c = search needs
+
+-- src/lib.rt:248:25
+right-set-requires-2 : tie.Need-right-set-requires-2 Inv-loop μ-loop
+right-set-requires-2 c κs = search needs
+
+-- src/lib.rt:249:25
+add-j-2 : tie.Need-add-j-2 Inv-loop μ-loop
+add-j-2 c = omega (arith, test (c .before .before .before .before .before .before .before .before .before .before .before .before .before .before .before .before .before .before .before), c .before .before .before .before .before .before .before .before .before .before .before .before .before .before .before .before .before .before .before .before .loop .inv .their-size)
+
+-- src/lib.rt:250:25
+set-at-requires-8 : tie.Need-set-at-requires-8 Inv-loop μ-loop
+set-at-requires-8 c κs = search needs
+
+-- src/lib.rt:225:5
+loop-less-4 : tie.Need-loop-less-4 Inv-loop μ-loop
+loop-less-4 c = omega (arith, test (c .before .before .before .before .before .before .before .before .before .before .before .before .before .before .before .before .before .before .before .before))
+
+-- src/lib.rt:225:5
+loop-again-4 : tie.Need-loop-again-4 Inv-loop μ-loop
+loop-again-4 c =
+    let inside = c .before .before .before .before .before .before .before .before .before .before .before .before .before .before .before .before .before .before .before .before in
+    let at = inside .before in
+    let start = at .before .before .before .before .before .before .before .before .before in
+    let both = test inside in
+    let a = c .before .before .before .before .before .before .before .before .before .before .before .before .before .before .before .before .before .before .before .set-at3 in
+    let b = c .before .before .before .before .before .before .before .before .before .before .before .before .before .before .before .before .before .before .set-at4 in
+    let stand = c .before .before .before .before .before .before .before .before .before .before .before .before .before .before .before .before .before .how-they-stand in
+    let emit = c .before .before .before .before .before .before .before .before .before .before .emit in
+    let meets = stands-meets (start .args .pool .now) (a .result) (b .result) _ (sym (stand .ensures) ∙ c .before .before .before .before .before .before .before .before .before .before .before .before .before .before .before .ends .given .1) in
+    swept-greater _ _ _ _ _ _ _ _ _ _ _ _ _ _ (at .loop .inv) (both .0) (both .1) _ _ (a .ensures) (b .ensures) _ _ _ _ (emit .ensures .0) (emit .ensures .1 .0) (emit .ensures .1 .1) _ _
+    (ranks-say (start .args .pool .now) (a .result .end) (b .result .end) (sym (meets .0) ∙ c .before .before .enum-told4 .given .1))
+    (c .before .right-set2 .ensures) (c .set-at8 .ensures)
+
+-- src/lib.rt:253:25
+enum-told-5 : tie.Need-enum-told-5 Inv-loop μ-loop
+enum-told-5 c = search needs
+
+-- src/lib.rt:253:25
+add-i-3 : tie.Need-add-i-3 Inv-loop μ-loop
+add-i-3 c = omega (arith, test (c .before .before .before .before .before .before .before .before .before .before .before .before .before .before .before .before .before .before))
+
+-- src/lib.rt:254:25
+add-j-3 : tie.Need-add-j-3 Inv-loop μ-loop
+add-j-3 c = omega (arith, test (c .before .before .before .before .before .before .before .before .before .before .before .before .before .before .before .before .before .before))
+
+-- src/lib.rt:255:25
+set-at-requires-9 : tie.Need-set-at-requires-9 Inv-loop μ-loop
+set-at-requires-9 c κs = search needs
+
+-- src/lib.rt:256:25
+set-at-requires-10 : tie.Need-set-at-requires-10 Inv-loop μ-loop
+set-at-requires-10 c κs = search needs
+
+-- src/lib.rt:225:5
+loop-less-5 : tie.Need-loop-less-5 Inv-loop μ-loop
+loop-less-5 c = omega (arith, test (c .before .before .before .before .before .before .before .before .before .before .before .before .before .before .before .before .before .before .before .before))
+
+-- src/lib.rt:225:5
+loop-again-5 : tie.Need-loop-again-5 Inv-loop μ-loop
+loop-again-5 c =
+    let inside = c .before .before .before .before .before .before .before .before .before .before .before .before .before .before .before .before .before .before .before .before in
+    let at = inside .before in
+    let start = at .before .before .before .before .before .before .before .before .before in
+    let both = test inside in
+    let a = c .before .before .before .before .before .before .before .before .before .before .before .before .before .before .before .before .before .before .before .set-at3 in
+    let b = c .before .before .before .before .before .before .before .before .before .before .before .before .before .before .before .before .before .before .set-at4 in
+    let stand = c .before .before .before .before .before .before .before .before .before .before .before .before .before .before .before .before .before .how-they-stand in
+    let emit = c .before .before .before .before .before .before .before .before .before .before .emit in
+    let meets = stands-meets (start .args .pool .now) (a .result) (b .result) _ (sym (stand .ensures) ∙ c .before .before .before .before .before .before .before .before .before .before .before .before .before .before .before .ends .given .1) in
+    swept-equal _ _ _ _ _ _ _ _ _ _ _ _ _ _ (at .loop .inv) (both .0) (both .1) _ _ (a .ensures) (b .ensures) _ _ _ _ (emit .ensures .0) (emit .ensures .1 .0) (emit .ensures .1 .1) _ _
+    (ranks-say (start .args .pool .now) (a .result .end) (b .result .end) (sym (meets .0) ∙ c .before .before .enum-told5 .given .1))
+    (c .before .set-at9 .ensures) (c .set-at10 .ensures)
+
+-- src/lib.rt:264:15
 put-rest-requires : tie.Need-put-rest-requires Inv-loop μ-loop
 put-rest-requires c κs = omega (arith, c .before .before .loop .inv)
 
+-- src/lib.rt:265:17
 put-rest-requires-2 : tie.Need-put-rest-requires-2 Inv-loop μ-loop
 put-rest-requires-2 c κs = omega (arith, c .before .before .before .before .before .before .loop .inv)
 
+-- src/lib.rt:201:1
 same-length : tie.Need-same-length Inv-loop μ-loop
 same-length c = c .before .before .before .before .before .before .before .before .before .loop .inv .shared .same
 
+-- src/lib.rt:201:1
+same-length-2 : tie.Need-same-length-2 Inv-loop μ-loop
+same-length-2 c = search needs
+
+-- src/lib.rt:201:1
+same-length-3 : tie.Need-same-length-3 Inv-loop μ-loop
+same-length-3 c = search needs
+
+-- src/lib.rt:201:1
 returns : tie.Need-returns Inv-loop μ-loop
 returns c =
     let at = c .before .before .before .before .before .before .before .before .before in
@@ -136,7 +336,14 @@ returns c =
       left-done (shared-end (start .args .pool .now) (start .args .ours .now) (start .args .theirs .now) (at .loop .i) (at .loop .j) (v .shared) ended) refl,
       (
         left-finish (only-end (start .args .pool .now) (at .loop .i) (at .loop .j) (at .loop .x) (v .our-only) ended) (c .before .before .before .before .before .before .put-rest .ensures),
-        left-finish (only-end (start .args .pool .now) (at .loop .j) (at .loop .i) (at .loop .y) (v .their-only) (other ended)) (c .before .before .put-rest2 .ensures),
+        (
+          left-finish (only-end (start .args .pool .now) (at .loop .j) (at .loop .i) (at .loop .y) (v .their-only) (other ended)) (c .before .before .put-rest2 .ensures),
+          record {
+            shared = omega (arith, v .shared-few, v .our-in, v .their-in);
+            our-only = omega (arith, v .ours-few, v .our-in, v .their-in, c .before .before .before .before .before .before .put-rest .ensures .count, rest-few (start .args .pool .now) (start .args .ours .now) (at .loop .i) (at .loop .x));
+            their-only = omega (arith, v .theirs-few, v .our-in, v .their-in, c .before .before .put-rest2 .ensures .count, rest-few (start .args .pool .now) (start .args .theirs .now) (at .loop .j) (at .loop .y));
+          },
+        ),
       ),
     )
 
@@ -146,35 +353,52 @@ sweep-spec =
     (tie.spec
     Inv-loop
     μ-loop
-    (λ c κs. search needs)
-    (λ c κs. search needs)
+    set-at-requires
+    set-at-requires-2
     loop-holds
-    (λ c κs. search needs)
-    (λ c κs. search needs)
-    emit-requires
-    (λ c κs. search needs)
-    (λ c. search needs)
-    (λ c κs. search needs)
+    set-at-requires-3
+    set-at-requires-4
+    how-they-stand-requires
+    enum-told
+    to-query-item-requires
+    put-requires
+    with-ours-requires
     add-i
-    (λ c κs. search needs)
+    set-at-requires-5
     loop-less
     loop-again
-    (λ c. search needs)
-    (λ c κs. search needs)
+    enum-told-2
+    to-query-item-requires-2
+    put-requires-2
+    with-theirs-requires
     add-j
-    (λ c κs. search needs)
+    set-at-requires-6
     loop-less-2
     loop-again-2
-    (λ c. search needs)
+    enum-known-ends
+    emit-requires
+    enum-told-3
+    right-set-requires
     add-i-2
-    add-j-2
-    (λ c κs. search needs)
-    (λ c κs. search needs)
+    set-at-requires-7
     loop-less-3
     loop-again-3
+    enum-told-4
+    right-set-requires-2
+    add-j-2
+    set-at-requires-8
+    loop-less-4
+    loop-again-4
+    enum-told-5
+    add-i-3
+    add-j-3
+    set-at-requires-9
+    set-at-requires-10
+    loop-less-5
+    loop-again-5
     put-rest-requires
     put-rest-requires-2
     same-length
-    (λ c. search needs)
-    (λ c. search needs)
+    same-length-2
+    same-length-3
     returns)

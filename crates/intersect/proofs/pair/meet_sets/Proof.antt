@@ -1,14 +1,25 @@
--- `intersect::pair::meet_sets` meets its contract: either may stand before the other. Assumes nothing.
+-- `intersect::pair::meet_sets` meets its contract: either may stand before the other; else the orders of starts and ends pick. Assumes nothing.
 use Rattle.intersect.specs.Pair.{meetSets}
-use mathlib.Core.Path.{_∙_}
 use borrow.Author.Needs.{needs}
 use Rattle.intersect.proofs.pair.meet_sets.Statement.{statement}
 use Rattle.intersect.proofs.pair.meet_sets.Tie as tie
 
 returns : tie.Need-returns
 unfolding meetSets
-returns c = c .meet-by .ensures ∙ rw (c .before .before .is-before .ensures, c .before .is-before2 .ensures)
+returns c = rw (← c .before .before .is-before .ensures, ← c .before .is-before2 .ensures, c .if1 .taken)
+
+returns-2 : tie.Need-returns-2
+unfolding meetSets
+returns-2 c = rw (c .overlap-by .ensures, c .before .compare-in2 .ensures, c .before .before .compare-in .ensures, ← c .before .before .before .before .before .is-before .ensures, ← c .before .before .before .before .is-before2 .ensures, c .before .before .before .if1 .left)
 
 pub meet-sets-spec : {M : Type 1} → statement M
 meet-sets-spec =
-    tie.close (tie.spec (λ c κs. search needs) (λ c κs. search needs) (λ c κs. search needs) returns)
+    tie.close
+    (tie.spec
+    (λ c κs. search needs)
+    (λ c κs. search needs)
+    returns
+    (λ c κs. search needs)
+    (λ c κs. search needs)
+    (λ c κs. search needs)
+    returns-2)
