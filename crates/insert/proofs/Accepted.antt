@@ -26,10 +26,11 @@ use Rattle.insert_order.specs.Refusals.{orderedVerdict}
 use Rattle.insert_order.proofs.Ranked.{lo, hi, rk-says}
 use Rattle.insert_order.proofs.Ordered.{Among}
 use Rattle.insert_order.proofs.Accepted.{Within, code-within, Good, good, good-fault, upright-ranks, items-good, good-items, accepted-items}
-use Rattle.insert.specs.declared.Fate.{Fate}
-use Rattle.insert.specs.declared.Fate.the-variants.{Replaced, Stays, Merges}
-use Rattle.insert.specs.Insertion.{fateOf, staying, smallerStart, largerEnd, plainItem, merged, mergeBy, mergedWith, inserted}
-use Rattle.insert.proofs.Merged.{smaller-start, larger-end, merged-spans}
+use Rattle.insert_merge.specs.declared.Fate.{Fate}
+use Rattle.insert_merge.specs.declared.Fate.the-variants.{Replaced, Stays, Merges}
+use Rattle.insert_merge.specs.Merge.{fateOf, staying, smallerStart, largerEnd, plainItem, merged, mergeBy, mergedWith}
+use Rattle.insert.specs.Insertion.{inserted}
+use Rattle.insert_merge.proofs.Merged.{smaller-start, larger-end, merged-spans}
 use Rattle.insert.proofs.Ordered.{among-staying, among-placed, order-inserted}
 
 module _ (pool : List ℕ) where

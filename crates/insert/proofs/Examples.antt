@@ -9,7 +9,8 @@ use Rattle.query_item.specs.declared.KeyAt.{KeyAt}
 use Rattle.query_item.specs.declared.ItemWords.{ItemWords}
 use Rattle.query_item.specs.Items.{keyAt, absent, itemWords}
 use Rattle.insert_order.specs.Order.{orderItems, sameItem, endsBelow}
-use Rattle.insert.specs.Insertion.{fateOf, staying, merged, mergedWith, placed, inserted}
+use Rattle.insert_merge.specs.Merge.{fateOf, staying, merged, mergedWith}
+use Rattle.insert.specs.Insertion.{placed, inserted}
 
 abbrev pool : List ℕ
 pool = 1 ∷ 3 ∷ 5 ∷ 9 ∷ 2 ∷ 4 ∷ 5 ∷ []

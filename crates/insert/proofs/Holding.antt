@@ -16,12 +16,13 @@ use Rattle.query_item.specs.Items.{holds, queryItem, holdsAny}
 use Rattle.query_item.specs.Boundaries.{boundaryOf, rangeOf}
 use Rattle.query_item.proofs.Laws.{holds-between}
 use Rattle.insert_order.specs.Order.{orderItems, sameItem}
-use Rattle.insert.specs.declared.Fate.{Fate}
-use Rattle.insert.specs.declared.Fate.the-variants.{Replaced, Stays, Merges}
-use Rattle.insert.specs.Insertion.{fateOf, keepBy, staying, merged, mergeBy, mergedWith, placed, inserted}
+use Rattle.insert_merge.specs.declared.Fate.{Fate}
+use Rattle.insert_merge.specs.declared.Fate.the-variants.{Replaced, Stays, Merges}
+use Rattle.insert_merge.specs.Merge.{fateOf, keepBy, staying, merged, mergeBy, mergedWith}
+use Rattle.insert.specs.Insertion.{placed, inserted}
 use Rattle.query_item.proofs.Laws.{boundary-fits}
 use Rattle.insert_order.proofs.Ranked.{rk, lo, hi, same-rank}
-use Rattle.insert.proofs.Merged.{Meets, fate-is, merged-spans, meets-ranks}
+use Rattle.insert_merge.proofs.Merged.{Meets, fate-is, merged-spans, meets-ranks}
 
 -- ---- a number between two
 

@@ -15,8 +15,9 @@ use Rattle.insert_order.specs.Refusals.{orderVerdict, orderedVerdict}
 use Rattle.insert_order.proofs.Ordered.{Among}
 use Rattle.insert.specs.declared.Inserted.{Inserted}
 use Rattle.insert.specs.declared.Inserted.the-variants.{Count, Refused}
-use Rattle.insert.specs.declared.Fate.the-variants.{Stays}
-use Rattle.insert.specs.Insertion.{fateOf, staying, mergedWith, placed, inserted}
+use Rattle.insert_merge.specs.declared.Fate.the-variants.{Stays}
+use Rattle.insert_merge.specs.Merge.{fateOf, staying, mergedWith}
+use Rattle.insert.specs.Insertion.{placed, inserted}
 use Rattle.insert.specs.Answers.{insertedOf, laid}
 use Rattle.insert.specs.Passes.{firstChanged}
 use Rattle.insert.proofs.Written.{items-flat}

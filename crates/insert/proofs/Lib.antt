@@ -1,8 +1,8 @@
 pub mod Reading
 pub mod Written
 pub mod Moves
+pub mod Windows
 pub mod Tails
-pub mod Merged
 pub mod Holding
 pub mod Ordered
 pub mod Accepted

@@ -12,11 +12,13 @@ use Rattle.query_item.specs.declared.ItemWords.{ItemWords}
 use Rattle.query_item.specs.Items.{itemSize, itemAt, itemsFrom, flatAll, withItem}
 use Rattle.item_check.proofs.Scans.{items-end, items-more}
 use Rattle.insert_order.specs.Order.{orderItems}
-use Rattle.insert.specs.declared.Fate.{Fate}
-use Rattle.insert.specs.declared.Fate.the-variants.{Replaced, Stays, Merges}
-use Rattle.insert.specs.Insertion.{fateOf, keepBy, staying, placed}
+use Rattle.insert_merge.specs.declared.Fate.{Fate}
+use Rattle.insert_merge.specs.declared.Fate.the-variants.{Replaced, Stays, Merges}
+use Rattle.insert_merge.specs.Merge.{fateOf, keepBy, staying, isStaying}
+use Rattle.insert.specs.Insertion.{placed}
 use Rattle.insert.specs.Answers.{laid}
-use Rattle.insert.specs.Passes.{isStaying, pick, goesFirst, Moved, cleared}
+use Rattle.insert.specs.Passes.{Stay, staysAt, pick, goesFirst, Moved, cleared}
+use Rattle.insert.proofs.Windows.{stays-is}
 use Rattle.insert.proofs.Written.{take-with, drop-with, length-with, item-alike}
 
 -- what comes of the item in hand and some that stay
@@ -87,6 +89,11 @@ module _ (pool ws₀ : List ℕ) (count : ℕ) (new : ItemWords) (out : List Ite
   module _ (ws : List ℕ) (hand : ItemWords) (isPlaced : Bool) (to i : ℕ) (m : Moving ws hand isPlaced to i) where
     old-is : {old : ItemWords} → old ≡ itemAt ws i → old ≡ itemAt ws₀ i
     old-is p = p ∙ item-alike ws ws₀ i (m .unread)
+
+    -- from the index asked on it stays
+    pub moving-fate : {old : ItemWords} {t : Bool} (asked : ℕ) → Stay pool ws₀ new asked count → i < count → old ≡ itemAt ws i → t ≡ staysAt pool i asked new old
+        → t ≡ isStaying (fateOf pool new old)
+    moving-fate {old} asked s h p q = q ∙ stays-is pool i asked new old (λ l. rw (old-is p) (s i l h))
 
     -- the item read does not stay
     pub moving-skip : {old : ItemWords} {t : Bool} → i < count → old ≡ itemAt ws i → t ≡ isStaying (fateOf pool new old) → t ≡ false

@@ -19,10 +19,11 @@ use Rattle.insert_order.proofs.Ranked.{lo, hi, itemRank, order-less, rank-above
 use Rattle.insert_order.proofs.Seen.{clash-none}
 use Rattle.insert_order.proofs.Ordered.{Among, Ordered, accepted-ordered, ordered-accepted, clash-says, plain-apart}
 use Rattle.insert_order.proofs.Accepted.{accepted-items, accepted-order, items-upright, upright-ranks}
-use Rattle.insert.specs.declared.Fate.{Fate}
-use Rattle.insert.specs.declared.Fate.the-variants.{Replaced, Stays, Merges}
-use Rattle.insert.specs.Insertion.{fateOf, keepBy, staying, merged, mergeBy, mergedWith, placed, inserted}
-use Rattle.insert.proofs.Merged.{fate-is, merged-spans, meets-ranks, ends-ranks, merged-wider, merged-plain}
+use Rattle.insert_merge.specs.declared.Fate.{Fate}
+use Rattle.insert_merge.specs.declared.Fate.the-variants.{Replaced, Stays, Merges}
+use Rattle.insert_merge.specs.Merge.{fateOf, keepBy, staying, merged, mergeBy, mergedWith}
+use Rattle.insert.specs.Insertion.{placed, inserted}
+use Rattle.insert_merge.proofs.Merged.{fate-is, merged-spans, meets-ranks, ends-ranks, merged-wider, merged-plain}
 
 module _ (pool : List ℕ) where
   abbrev K : ItemWords → ℕ

@@ -9,44 +9,11 @@ use lib.ListN.{length}
 use Rattle.query_item.specs.declared.ItemWords.{ItemWords}
 use Rattle.query_item.specs.Items.{itemAt, itemsFrom}
 use Rattle.item_check.proofs.Scans.{items-end, items-more}
-use Rattle.insert.specs.declared.Fate.{Fate}
-use Rattle.insert.specs.declared.Fate.the-variants.{Replaced, Stays, Merges}
-use Rattle.insert.specs.Insertion.{fateOf, keepBy, staying, mergeBy, mergedWith}
-use Rattle.insert.specs.Passes.{isStaying, oneIf, keepsPlace, firstChanged}
+use Rattle.insert.specs.Passes.{keepsPlace, firstChanged}
 
 module _ (pool ws : List ℕ) (i count : ℕ) where
   abbrev left : ℕ → List ItemWords
   left j = itemsFrom ws j (count - j)
-
-  -- ---- what merges
-
-  pub merged-more : (new cur : ItemWords) {cur′ old : ItemWords} {fate : Fate} → i < count → old ≡ itemAt ws i → fate ≡ fateOf pool new old
-      → cur′ ≡ mergeBy pool fate cur old → mergedWith pool new cur (left i) ≡ mergedWith pool new cur′ (left (i + 1))
-  unfolding mergedWith
-  merged-more new cur h p q r = rw (r, q, p, items-more ws i count h)
-
-  pub merged-end : (new cur : ItemWords) → count ≤ i → mergedWith pool new cur (left i) ≡ cur
-  unfolding mergedWith
-  merged-end new cur h = rw (items-end ws i count h)
-
-  -- ---- how many stay
-
-  length-keep : (f : Fate) (it : ItemWords) (its : List ItemWords) → length (keepBy f it its) ≡ oneIf (isStaying f) + length its
-  length-keep Replaced it its = omega arith
-  length-keep Stays it its = omega arith
-  length-keep Merges it its = omega arith
-
-  pub stay-more : (new : ItemWords) {old : ItemWords} {fate : Fate} {t : Bool} {n : ℕ} → i < count → old ≡ itemAt ws i → fate ≡ fateOf pool new old
-      → t ≡ isStaying fate → n ≡ oneIf t → length (staying pool new (left i)) ≡ n + length (staying pool new (left (i + 1)))
-  unfolding staying
-  stay-more new h p q r s =
-      rw (s, r, q, p, items-more ws i count h) (length-keep (fateOf pool new (itemAt ws i)) (itemAt ws i) (staying pool new (left (i + 1))))
-
-  pub stay-end : (new : ItemWords) → count ≤ i → length (staying pool new (left i)) ≡ 0
-  unfolding staying
-  stay-end new h = rw (items-end ws i count h)
-
-  -- ---- the first change
 
   pub first-here : (new result : ItemWords) {old : ItemWords} → i < count → old ≡ itemAt ws i → keepsPlace pool new result old ≡ false
       → firstChanged pool new result (left i) ≡ 0
@@ -61,7 +28,3 @@ module _ (pool ws : List ℕ) (i count : ℕ) where
   pub first-end : (new result : ItemWords) → count ≤ i → firstChanged pool new result (left i) ≡ 0
   unfolding firstChanged
   first-end new result h = rw (items-end ws i count h)
-
-pub one-at-most : (t : Bool) {n : ℕ} → n ≡ oneIf t → n ≤ 1
-one-at-most true e = omega arith
-one-at-most false e = omega arith

@@ -14,12 +14,13 @@ use Rattle.key_order.specs.Order.{isLess}
 use Rattle.query_item.specs.declared.ItemWords.{ItemWords}
 use Rattle.query_item.specs.Items.{itemSize, itemAt, itemsFrom, flatAll}
 use Rattle.insert_order.specs.Order.{orderItems}
-use Rattle.insert.specs.declared.Fate.{Fate}
-use Rattle.insert.specs.declared.Fate.the-variants.{Replaced, Stays, Merges}
-use Rattle.insert.specs.Insertion.{fateOf, keepBy, staying, mergedWith, placed, inserted}
+use Rattle.insert_merge.specs.declared.Fate.{Fate}
+use Rattle.insert_merge.specs.declared.Fate.the-variants.{Replaced, Stays, Merges}
+use Rattle.insert_merge.specs.Merge.{fateOf, keepBy, staying, mergedWith, isStaying}
+use Rattle.insert.specs.Insertion.{placed, inserted}
 use Rattle.insert.specs.Answers.{laid}
-use Rattle.insert.specs.Passes.{isStaying, keepsPlace, firstChanged}
-use Rattle.insert.proofs.Written.{items-drop, flat-append, flat-front, length-items}
+use Rattle.insert.specs.Passes.{Stay, keepsPlace, firstChanged}
+use Rattle.insert.proofs.Written.{item-drop, items-drop, flat-append, flat-front, length-items}
 
 -- ---- how many items there are
 
@@ -143,6 +144,11 @@ module _ (pool ws : List ℕ) (count : ℕ) (new result : ItemWords) {a : ℕ} (
   tail-room h k =
       let l = first-in in
       rw (tail-is ws (itemSize * a), length-drop (itemSize * a) ws) (omega arith, omega (arith, whole-long))
+
+  -- what stays in the list stays in its tail
+  pub tail-stay : {asked : ℕ} (to : ℕ) → asked ≡ to - a → Stay pool ws new to count
+      → Stay pool (take (length ws - itemSize * a) (drop (itemSize * a) ws)) new asked (count - a)
+  tail-stay to d s j h l = rw (tail-is ws (itemSize * a), item-drop ws a j) (s (a + j) (omega arith) (omega (arith, first-in)))
 
   pub tail-laid : {ys : List ℕ} → count ≤ length ws / itemSize → result ≡ mergedWith pool new new (itemsFrom ws 0 count)
       → ys ≡ laid (take (length ws - itemSize * a) (drop (itemSize * a) ws)) (count - a)

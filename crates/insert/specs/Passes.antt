@@ -1,27 +1,42 @@
--- What the passes over a list go by, an item at a time: the first change, the moved tail. `proofs/` says that they give what Insertion.antt
+-- What the passes over a list go by, an item at a time: what has to be asked, the first change, the moved tail. `proofs/` says that they give what Insertion.antt
 -- and Answers.antt define. Assumes nothing.
-use Prim.Native.Nat.{ℕ, suc, _*_, _-_, max}
+use Prim.Native.Nat.{ℕ, suc, _*_, _-_, _≤_, _<_, max}
 use mathlib.Core.Path.{_≡_}
 use mathlib.Core.List.{List, [], _∷_, _++_}
 use mathlib.Core.Bool.{Bool, true, false, cond, _&&_}
 use lib.ListN.{length, take, drop, replicate}
+use lib.Dec.{ltb}
 use Rattle.key_order.specs.Order.{isLess}
 use Rattle.query_item.specs.declared.ItemWords.{ItemWords}
-use Rattle.query_item.specs.Items.{itemSize, itemWords, absent, flatAll}
+use Rattle.query_item.specs.Items.{itemSize, itemAt, itemWords, absent, flatAll}
 use Rattle.insert_order.specs.Order.{orderItems}
-use Rattle.insert.specs.declared.Fate.{Fate}
-use Rattle.insert.specs.declared.Fate.the-variants.{Replaced, Stays, Merges}
-use Rattle.insert.specs.Insertion.{fateOf}
+use Rattle.insert_merge.specs.declared.Fate.the-variants.{Stays}
+use Rattle.insert_merge.specs.Merge.{fateOf, isStaying}
+
+-- ---- what has to be asked
+
+-- no item of the first count is below an earlier one
+abbrev pub Ascending : List ℕ → List ℕ → ℕ → Type 0
+Ascending pool ws count = (j k : ℕ) → j < k → k < count → isLess (orderItems pool (itemAt ws k) (itemAt ws j)) ≡ false
+
+-- of the first count items n are below an item, and stand first
+pub record Below (pool ws : List ℕ) (count : ℕ) (it : ItemWords) (n : ℕ) : Type 0 where
+  pub within : n ≤ count
+  pub below : (j : ℕ) → j < n → isLess (orderItems pool (itemAt ws j) it) ≡ true
+  pub others : (j : ℕ) → n ≤ j → j < count → isLess (orderItems pool (itemAt ws j) it) ≡ false
+
+-- the items from an index up to another stay
+abbrev pub Stay : List ℕ → List ℕ → ItemWords → ℕ → ℕ → Type 0
+Stay pool ws new a b = (j : ℕ) → a ≤ j → j < b → fateOf pool new (itemAt ws j) ≡ Stays
+
+-- of the first count items those before an index and those from another on stay
+pub record Asked (pool ws : List ℕ) (count : ℕ) (new : ItemWords) (from to : ℕ) : Type 0 where
+  pub ascends : from ≤ to
+  pub within : to ≤ count
+  pub front : Stay pool ws new 0 from
+  pub back : Stay pool ws new to count
 
 -- ---- what changes
-
-abbrev pub isStaying : Fate → Bool
-isStaying Replaced = false
-isStaying Stays = true
-isStaying Merges = false
-
-abbrev pub oneIf : Bool → ℕ
-oneIf b = cond b 1 0
 
 -- an item that stays and is below the result keeps its place
 abbrev pub keepsPlace : List ℕ → ItemWords → ItemWords → ItemWords → Bool
@@ -37,6 +52,10 @@ firstChanged pool new result (it ∷ its) = cond (keepsPlace pool new result it)
 -- of two items one, by a test
 abbrev pub pick : Bool → ItemWords → ItemWords → ItemWords
 pick t x y = cond t x y
+
+-- whether the item at an index stays, where all from another index on do
+abbrev pub staysAt : List ℕ → ℕ → ℕ → ItemWords → ItemWords → Bool
+staysAt pool i asked new it = cond (ltb i asked) (isStaying (fateOf pool new it)) true
 
 -- what goes out before the item in hand, where that is not placed yet
 abbrev pub goesFirst : List ℕ → Bool → ItemWords → ItemWords → Bool

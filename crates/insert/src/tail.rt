@@ -3,29 +3,33 @@ ghost use mathlib.Core.Path.{_≡_};
 ghost use Prim.Native.Nat.{_/_, _≤_};
 ghost use lib.ListN.{length};
 ghost use Rattle.query_item.specs.Items.{itemSize, itemsFrom};
-ghost use Rattle.insert.specs.Insertion.{staying, placed};
+ghost use Rattle.insert_merge.specs.Merge.{staying};
+ghost use Rattle.insert.specs.Insertion.{placed};
 ghost use Rattle.insert.specs.Answers.{laid};
-ghost use Rattle.insert.specs.Passes.{keepsPlace, firstChanged, pick, goesFirst, zeroItem, Moved, cleared};
-use crate::merge::fate_of;
-use crate::merge::is_staying;
+ghost use Rattle.insert.specs.Passes.{Ascending, Stay, keepsPlace, firstChanged, staysAt, pick, goesFirst, zeroItem, Moved, cleared};
+use crate::window::count_below;
+use insert_merge::fate_of;
+use insert_merge::is_staying;
 use insert_order::order_items;
+use item_words::item_at;
+use item_words::write_item;
 use query_item::ItemWords;
 use query_item::KeyAt;
 use query_item::boundary::is_less;
-use query_item::item::item_at;
-use query_item::item::write_item;
 
-// How many items at the front stay where they are.
+// How many items at the front stay where they are. Those before the index from all stay: of them the ones below the result do.
 pub(crate) fn first_changed(
     pool: &[u8],
     words: &[u32],
     count: usize,
+    from: usize,
     item: ItemWords,
     result: ItemWords,
 ) -> usize
+    requires { ⌜ (from ≤ count) × Ascending (now pool) (now words) count × Stay (now pool) (now words) item 0 from ⌝ }
     ensures { λ r. ⌜ r ≡ firstChanged (now (pool .entry)) item result (itemsFrom (now (words .entry)) 0 count) ⌝ }
 {
-    let mut i: usize = 0;
+    let mut i = count_below(pool, words, from, result);
     while i < count {
         if !keeps_place(pool, item, result, item_at(words, i)) {
             return i;
@@ -41,18 +45,19 @@ fn keeps_place(pool: &[u8], item: ItemWords, result: ItemWords, old: ItemWords) 
     is_staying(fate_of(pool, item, old)) & is_less(order_items(pool, old, result))
 }
 
-// Takes out what does not stay of count items, puts the result in, and sets the words that this frees to 0.
+// Takes out what does not stay of count items, puts the result in, and sets the words that this frees to 0. From the index asked on all stay.
 pub(crate) fn rewrite(
     pool: &[u8],
     tail: &mut [u32],
     count: usize,
+    asked: usize,
     item: ItemWords,
     result: ItemWords,
 )
-    requires { ⌜ (count ≤ length (now tail) / itemSize) × (length (placed (now pool) result (staying (now pool) item (itemsFrom (now tail) 0 count))) ≤ length (now tail) / itemSize) ⌝ }
+    requires { ⌜ (count ≤ length (now tail) / itemSize) × (length (placed (now pool) result (staying (now pool) item (itemsFrom (now tail) 0 count))) ≤ length (now tail) / itemSize) × Stay (now pool) (now tail) item asked count ⌝ }
     ensures { λ _. ⌜ now (tail .exit) ≡ laid (now (tail .entry)) count (placed (now (pool .entry)) result (staying (now (pool .entry)) item (itemsFrom (now (tail .entry)) 0 count))) ⌝ }
 {
-    let end = move_items(pool, tail, count, item, result);
+    let end = move_items(pool, tail, count, asked, item, result);
     clear_items(tail, end, count);
 }
 
@@ -62,10 +67,11 @@ fn move_items(
     pool: &[u8],
     tail: &mut [u32],
     count: usize,
+    asked: usize,
     item: ItemWords,
     result: ItemWords,
 ) -> usize
-    requires { ⌜ (count ≤ length (now tail) / itemSize) × (length (placed (now pool) result (staying (now pool) item (itemsFrom (now tail) 0 count))) ≤ length (now tail) / itemSize) ⌝ }
+    requires { ⌜ (count ≤ length (now tail) / itemSize) × (length (placed (now pool) result (staying (now pool) item (itemsFrom (now tail) 0 count))) ≤ length (now tail) / itemSize) × Stay (now pool) (now tail) item asked count ⌝ }
     ensures { λ r. ⌜ (r ≡ length (placed (now (pool .entry)) result (staying (now (pool .entry)) item (itemsFrom (now (tail .entry)) 0 count)))) × Moved (now (tail .entry)) count (placed (now (pool .entry)) result (staying (now (pool .entry)) item (itemsFrom (now (tail .entry)) 0 count))) (now (tail .exit)) ⌝ }
 {
     let mut hand = result;
@@ -74,8 +80,9 @@ fn move_items(
     let mut i: usize = 0;
     while i < count {
         let old = item_at(tail, i);
+        let stays = stays_at(pool, i, asked, item, old);
         i += 1;
-        if is_staying(fate_of(pool, item, old)) {
+        if stays {
             let first = goes_first(pool, is_placed, old, hand);
             write_item(tail, to, pick_item(first, old, hand));
             hand = pick_item(first, hand, old);
@@ -85,6 +92,16 @@ fn move_items(
     }
     write_item(tail, to, hand);
     to + 1
+}
+
+// Whether the item at the index i stays, one before the index asked by its fate.
+fn stays_at(pool: &[u8], i: usize, asked: usize, item: ItemWords, old: ItemWords) -> bool
+    ensures { λ r. ⌜ r ≡ staysAt (now (pool .entry)) i asked item old ⌝ }
+{
+    if i < asked {
+        return is_staying(fate_of(pool, item, old));
+    }
+    true
 }
 
 fn goes_first(pool: &[u8], is_placed: bool, old: ItemWords, hand: ItemWords) -> bool

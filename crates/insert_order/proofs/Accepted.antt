@@ -1,6 +1,6 @@
 -- What the accepted have: an item is of a known code, its keys are in the pool, and it is upright; a list is of such items, in order; a
 -- count is within its buffer. Assumes nothing.
-use Prim.Native.Nat.{ℕ, zero, suc, _/_, _≤_}
+use Prim.Native.Nat.{ℕ, zero, suc, _/_, _≤_, _<_}
 use mathlib.Core.Path.{_≡_, refl}
 use mathlib.Core.Bool.{Bool, true, false, cond, _||_, _&&_}
 use mathlib.Core.Logic.{_⊎_, inl, inr}
@@ -21,12 +21,12 @@ use Rattle.query_item.specs.declared.QueryItem.{QueryItem}
 use Rattle.query_item.specs.declared.QueryItem.the-variants.{Key, Range, RangeInclusive, RangeFull, RangeFrom, RangeTo, RangeToInclusive, RangeAfter, RangeAfterTo, RangeAfterToInclusive}
 use Rattle.query_item.specs.declared.RangeSetItem.{RangeSetItem}
 use Rattle.query_item.specs.declared.RangeSetItem.the-variants.{UnboundedStart, UnboundedEnd, Inclusive, ExclusiveStart, ExclusiveEnd}
-use Rattle.query_item.specs.Items.{itemSize, itemsFrom, itemOf}
+use Rattle.query_item.specs.Items.{itemSize, itemAt, itemsFrom, itemOf}
 use Rattle.query_item.specs.Boundaries.{compareIn, toRangeSet, rangeOf, upright}
 use Rattle.item_check.specs.Checks.{Verdict, answered, refused, accepted, andThen, hasStart, hasEnd, keyOut, malformed, outside, uprightFault, mostItems, poolVerdict, faultAt, firstBad}
 use Rattle.insert_order.specs.Refusals.{bufferVerdict, orderVerdict, orderedVerdict, inputVerdict}
 use Rattle.insert_order.proofs.Ranked.{lo, hi, rk-says}
-use Rattle.insert_order.proofs.Ordered.{Among}
+use Rattle.insert_order.proofs.Ordered.{Among, among-at}
 
 module _ (pool : List ℕ) where
   -- a boundary's key is in the pool
@@ -130,6 +130,10 @@ module _ (pool : List ℕ) where
   pub items-upright : (i : ℕ) (its : List ItemWords) → firstBad pool 0 i its ≡ accepted → (x : ItemWords) → Among x its → lo (size pool) pool x ≤ hi (size pool) pool x
   items-upright i its e x m = upright-ranks x (good-fault x (items-good i its e x m))
 
+  pub upright-at : (ws : List ℕ) (count : ℕ) → firstBad pool 0 0 (itemsFrom ws 0 count) ≡ accepted → (j : ℕ) → j < count
+      → lo (size pool) pool (itemAt ws j) ≤ hi (size pool) pool (itemAt ws j)
+  upright-at ws count e j h = items-upright 0 (itemsFrom ws 0 count) e (itemAt ws j) (among-at pool ws 0 count j (omega arith) (omega arith))
+
   accepted-parts : (its : List ItemWords) (v : Verdict) → firstBad pool 0 0 its ≡ v → andThen v (orderVerdict pool its) ≡ accepted
       → (firstBad pool 0 0 its ≡ accepted) × (orderVerdict pool its ≡ accepted)
   accepted-parts its (answered tt) p q = (p, q)
@@ -141,16 +145,32 @@ module _ (pool : List ℕ) where
   pub accepted-order : (its : List ItemWords) → orderedVerdict pool its ≡ accepted → orderVerdict pool its ≡ accepted
   accepted-order its e = accepted-parts its (firstBad pool 0 0 its) refl e .1
 
--- ---- the count
+-- ---- the input
 
-pub input-count : (pool ws : List ℕ) (count : ℕ) (new : ItemWords) → inputVerdict pool ws count new ≡ accepted → count ≤ length ws / itemSize
-input-count pool ws count new e = go (poolVerdict pool) e
-  where
-    buffer : (t u : Bool) → ltb (length ws / itemSize) count ≡ t → (rest : Verdict) → andThen (cond (t || u) (refused 1 0 0) accepted) rest ≡ accepted → count ≤ length ws / itemSize
-    buffer true u p rest f = absurd (let z : _≡_ {A = ℕ} 0 1 = cc in omega arith)
-    buffer false u p rest f = ltb-false (length ws / itemSize) count p
+and-then : (v w : Verdict) → andThen v w ≡ accepted → (v ≡ accepted) × (w ≡ accepted)
+and-then (answered tt) w e = (refl, e)
+and-then (refused n s i) w e = absurd (let z : _≡_ {A = ℕ} 0 1 = cc in omega arith)
 
-    go : (v : Verdict) → andThen v (andThen (bufferVerdict ws count) (andThen (orderedVerdict pool (itemsFrom ws 0 count)) (faultAt (uprightFault pool new) 1 0))) ≡ accepted
-        → count ≤ length ws / itemSize
-    go (answered u) f = buffer (ltb (length ws / itemSize) count) (ltb mostItems count) refl _ f
-    go (refused n s i) f = absurd (let z : _≡_ {A = ℕ} 0 1 = cc in omega arith)
+module _ (pool ws : List ℕ) (count : ℕ) (new : ItemWords) (e : inputVerdict pool ws count new ≡ accepted) where
+  past-pool : andThen (bufferVerdict ws count) (andThen (orderedVerdict pool (itemsFrom ws 0 count)) (faultAt (uprightFault pool new) 1 0)) ≡ accepted
+  past-pool = and-then (poolVerdict pool) _ e .1
+
+  past-buffer : andThen (orderedVerdict pool (itemsFrom ws 0 count)) (faultAt (uprightFault pool new) 1 0) ≡ accepted
+  past-buffer = and-then (bufferVerdict ws count) _ past-pool .1
+
+  pub input-count : count ≤ length ws / itemSize
+  input-count = go (ltb (length ws / itemSize) count) (ltb mostItems count) refl (and-then (bufferVerdict ws count) _ past-pool .0)
+    where
+      go : (t u : Bool) → ltb (length ws / itemSize) count ≡ t → cond (t || u) (refused 1 0 0) accepted ≡ accepted → count ≤ length ws / itemSize
+      go true u p f = absurd (let z : _≡_ {A = ℕ} 0 1 = cc in omega arith)
+      go false u p f = ltb-false (length ws / itemSize) count p
+
+  pub input-list : orderedVerdict pool (itemsFrom ws 0 count) ≡ accepted
+  input-list = and-then (orderedVerdict pool (itemsFrom ws 0 count)) _ past-buffer .0
+
+  pub input-new : uprightFault pool new ≡ 0
+  input-new = go (uprightFault pool new) (and-then (orderedVerdict pool (itemsFrom ws 0 count)) _ past-buffer .1)
+    where
+      go : (f : ℕ) → faultAt f 1 0 ≡ accepted → f ≡ 0
+      go zero p = refl
+      go (suc f) p = absurd (let z : _≡_ {A = ℕ} 0 1 = cc in omega arith)

@@ -1,16 +1,18 @@
 -- A list in order, by its pairs: no item clashes with a later one. An accepted list is one, and in ranks its items are sorted and its plain
 -- items lie apart. Assumes nothing.
-use Prim.Native.Nat.{ℕ, suc, _≤_, _<_}
-use mathlib.Core.Path.{_≡_, refl, sym, _∙_}
+use Prim.Native.Nat.{ℕ, zero, suc, _+_, _≤_, _<_}
+use mathlib.Core.Path.{_≡_, refl, sym, ap, _∙_}
 use mathlib.Core.Bool.{Bool, true, false, cond, not, _||_, _&&_}
 use mathlib.Core.Logic.{_⊎_, inl, inr}
 use mathlib.Core.List.{List, [], _∷_}
 use native.Mathlib.Omega.{arith}
 use native.Mathlib.Nat.{le-refl}
+use native.Mathlib.Decide.{decLt}
 use borrow.Author.Tests.{ltb-true, ltb-false}
 use Rattle.key_order.specs.Order.{isLess}
 use Rattle.key_order.proofs.Line.{size}
 use Rattle.query_item.specs.declared.ItemWords.{ItemWords}
+use Rattle.query_item.specs.Items.{itemAt, itemsFrom}
 use Rattle.item_check.specs.Checks.{refused, accepted}
 use Rattle.insert_order.specs.Order.{orderItems, plain, sameItem, endsBelow, clash, clashes}
 use Rattle.insert_order.specs.Refusals.{firstClash}
@@ -116,3 +118,22 @@ module _ (pool : List ℕ) where
       go (inl a) (inr b) r = inr (inl (clash-says x p (rw a (o .0 p b)) .1 s t))
       go (inr a) (inl b) r = inr (inr (clash-says p x (rw b (o .0 x a)) .1 t s))
       go (inr a) (inr b) r = r a b
+
+  -- ---- by index
+
+  module _ (ws : List ℕ) where
+    pub among-at : (i n j : ℕ) → i ≤ j → j < i + n → Among (itemAt ws j) (itemsFrom ws i n)
+    unfolding itemsFrom
+    among-at i zero j h l = absurd (omega arith)
+    among-at i (suc n) j h l = elim (decLt i j) [
+      | yes m ↦ inr (among-at (suc i) n j (omega arith) (omega arith))
+      | no m ↦ let e : j ≡ i = omega arith in inl (ap (itemAt ws) e)
+    ]
+
+    pub ordered-at : (i n : ℕ) → Ordered (itemsFrom ws i n) → (j k : ℕ) → i ≤ j → j < k → k < i + n → clash pool (itemAt ws j) (itemAt ws k) ≡ false
+    unfolding itemsFrom
+    ordered-at i zero o j k h l m = absurd (omega arith)
+    ordered-at i (suc n) o j k h l m = elim (decLt i j) [
+      | yes q ↦ ordered-at (suc i) n (o .1) j k (omega arith) l (omega arith)
+      | no q ↦ let e : j ≡ i = omega arith in rw e (o .0 (itemAt ws k) (among-at (suc i) n k (omega arith) (omega arith)))
+    ]

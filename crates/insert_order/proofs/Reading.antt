@@ -1,12 +1,14 @@
--- How the test of the order reads a list: an item that is repeated among those that are left at an index, and the item before one. Assumes
--- nothing.
+-- How the test of the order reads a list: an item that is repeated among those that are left at an index, the item before one, and equal
+-- items. Assumes nothing.
 use Prim.Native.Nat.{ℕ, zero, suc, _+_, _-_, _≤_, _<_}
 use mathlib.Core.Path.{_≡_, refl}
-use mathlib.Core.Bool.{true, false, not, _&&_}
+use mathlib.Core.Bool.{Bool, true, false, not, _&&_}
 use mathlib.Core.List.{List}
 use native.Mathlib.Omega.{arith}
+use lib.Dec.{eqb}
+use borrow.Author.Tests.{not-true, not-false}
 use Rattle.query_item.specs.declared.ItemWords.{ItemWords}
-use Rattle.query_item.specs.Items.{itemAt, itemsFrom}
+use Rattle.query_item.specs.Items.{bytesOf, same, itemAt, itemsFrom}
 use Rattle.item_check.proofs.Scans.{items-end, items-more}
 use Rattle.insert_order.specs.Order.{orderItems, plain, sameItem, endsBelow}
 use Rattle.insert_order.specs.Passes.{lastOrder, meetsPlain, repeats}
@@ -42,3 +44,20 @@ module _ (pool ws : List ℕ) where
   unfolding meetsPlain
   meets-before zero it h = absurd (h refl)
   meets-before (suc p) it h = let e : suc p - 1 ≡ p = omega arith in rw e
+
+-- ---- equal items: code and wrapper decide, or the keys do
+
+module _ (pool : List ℕ) (x y : ItemWords) where
+  abbrev starts : Bool
+  starts = same (bytesOf pool (x .start)) (bytesOf pool (y .start))
+
+  abbrev ends : Bool
+  ends = same (bytesOf pool (x .end)) (bytesOf pool (y .end))
+
+  pub same-other : not (eqb (x .code) (y .code) && eqb (x .wrapper) (y .wrapper)) ≡ true → false ≡ sameItem pool x y
+  unfolding sameItem
+  same-other e = rw (not-true (eqb (x .code) (y .code) && eqb (x .wrapper) (y .wrapper)) e)
+
+  pub same-alike : not (eqb (x .code) (y .code) && eqb (x .wrapper) (y .wrapper)) ≡ false → starts && ends ≡ sameItem pool x y
+  unfolding sameItem
+  same-alike e = rw (not-false (eqb (x .code) (y .code) && eqb (x .wrapper) (y .wrapper)) e)

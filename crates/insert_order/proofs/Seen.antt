@@ -3,13 +3,14 @@
 -- the other plain ones. Assumes nothing.
 use Prim.Native.Nat.{ℕ, zero, suc, _+_, _-_, _≤_, _<_}
 use mathlib.Core.Path.{_≡_, refl, sym, _∙_}
-use mathlib.Core.Bool.{Bool, true, false, not, _||_, _&&_}
+use mathlib.Core.Bool.{Bool, true, false, cond, not, _||_, _&&_}
 use mathlib.Core.List.{List, [], _∷_}
 use native.Mathlib.Omega.{arith}
 use native.Mathlib.Nat.{le-refl, sub-zero}
 use native.Mathlib.Numerals.{add-one}
 use native.Mathlib.Decide.{decLt}
-use borrow.Author.Tests.{ltb-true, lt-ltb, le-ltb, not-false}
+use lib.Dec.{eqb}
+use borrow.Author.Tests.{ltb-true, lt-ltb, le-ltb, not-false, eqb-true}
 use Rattle.key_order.specs.declared.Ordering.{Ordering}
 use Rattle.key_order.specs.declared.Ordering.the-variants.{Less, Equal, Greater}
 use Rattle.key_order.specs.Order.{isLess}
@@ -21,8 +22,8 @@ use Rattle.item_check.specs.Checks.{Verdict, accepted, refused}
 use Rattle.item_check.proofs.Scans.{items-end, items-more}
 use Rattle.insert_order.specs.Order.{orderItems, plain, sameItem, endsBelow, clash, clashes}
 use Rattle.insert_order.specs.Refusals.{firstClash, orderVerdict}
-use Rattle.insert_order.specs.Passes.{isGreater, lastOrder, runStart, meetsPlain, lastPlain, repeats, quickClash}
-use Rattle.insert_order.proofs.Ranked.{lo, hi, itemRank, order-says, order-less, ends-less, rank-start, same-item-rank}
+use Rattle.insert_order.specs.Passes.{followsPlain, isGreater, lastOrder, runStart, meetsPlain, lastPlain, repeats, quickClash}
+use Rattle.insert_order.proofs.Ranked.{lo, hi, itemRank, order-says, order-less, ends-less, rank-above, rank-start, same-item-rank}
 
 -- ---- three tests joined by or
 
@@ -314,6 +315,48 @@ module _ (pool ws : List ℕ) where
             ];
             plain-apart = v .plain-apart;
           }
+
+  -- a plain item that starts above the end of the last one, plain and upright, is above that, and the quick test finds nothing
+  record Next (i run p : ℕ) (it : ItemWords) : Type 0 where
+    pub order : Less ≡ lastOrder pool ws i it
+    pub quick : quickClash pool ws Less i p i it ≡ false
+    pub is-plain : plain it ≡ true
+
+  next : (i run p : ℕ) (it : ItemWords) → (0 < i → S pool (at (i - 1)) ≤ E pool (at (i - 1))) → followsPlain pool ws p i it ≡ true → Next i run p it
+  unfolding lastOrder meetsPlain repeats itemsFrom
+  next zero run p it up e = true-false false e refl
+  next (suc i) run p it up e = go (eqb p (suc i)) refl (plain it) refl (endsBelow pool (at i) it) refl (rw (f, le-ltb (suc i) 1 (omega arith)) at e)
+    where
+      f : suc i - 1 ≡ i
+      f = omega arith
+
+      order : E pool (at i) < S pool it → (o : Ordering) → Says o (K pool (at i)) (K pool it) → Less ≡ o
+      order h Less s = refl
+      order h Equal s = absurd (omega (arith, rank-above (size pool) pool (le-refl (size pool)) (at i) it (omega (arith, rw f at (up (omega arith))))))
+      order h Greater s = absurd (omega (arith, rank-above (size pool) pool (le-refl (size pool)) (at i) it (omega (arith, rw f at (up (omega arith))))))
+
+      go : (a : Bool) → eqb p (suc i) ≡ a → (b : Bool) → plain it ≡ b → (c : Bool) → endsBelow pool (at i) it ≡ c
+          → cond (false || not a || not b) false c ≡ true → Next (suc i) run p it
+      go true g true h true k l =
+          let q : p ≡ suc i = eqb-true p (suc i) g in
+          let n : suc i - suc i ≡ 0 = omega arith in
+          record {
+            order =
+                order (ltb-true (E pool (at i)) (S pool it) (sym (ends-less (size pool) pool (le-refl (size pool)) (at i) it) ∙ k)) (orderItems pool (at i) it)
+                (order-says (size pool) pool (le-refl (size pool)) (at i) it);
+            quick = rw (q, n, h, k);
+            is-plain = h;
+          }
+      go true g true h false k l = true-false false l refl
+      go true g false h c k l = true-false false l refl
+      go false g b h c k l = true-false false l refl
+
+  pub seen-next : (i run p : ℕ) → Seen i run p → {it : ItemWords} → it ≡ at i → (0 < i → S pool (at (i - 1)) ≤ E pool (at (i - 1)))
+      → followsPlain pool ws p i it ≡ true → (clashes pool (earlier i) (at i) ≡ false) × Seen (i + 1) i (i + 1)
+  seen-next i run p v s up e =
+      let n = next i run p (at i) up (rw s at e) in
+      let clear = quick-none i run p v (at i) Less (n .order) i refl (n .quick) in
+      (clear-none i run p v (at i) Less (n .order) i refl clear, seen-more i run p v Less (n .order) i refl (i + 1) clear (rw (n .is-plain)))
 
 -- ---- the verdict on what is left of the list at an index
 

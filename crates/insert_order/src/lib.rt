@@ -8,10 +8,10 @@ ghost use mathlib.Core.Path.{_≡_};
 ghost use Prim.Native.Nat.{_-_};
 ghost use Rattle.query_item.specs.Items.{itemsFrom};
 ghost use Rattle.query_item.specs.Boundaries.{rangeOf};
-ghost use Rattle.item_check.specs.Checks.{verdictOf};
+ghost use Rattle.item_check.specs.Checks.{verdictOf, accepted, firstBad};
 ghost use Rattle.insert_order.specs.Order.{orderItems, plain, sameItem, endsBelow};
 ghost use Rattle.insert_order.specs.Refusals.{bufferVerdict, orderVerdict, orderedVerdict, inputVerdict};
-ghost use Rattle.insert_order.specs.Passes.{isGreater, lastOrder, runStart, meetsPlain, lastPlain, repeats, quickClash};
+ghost use Rattle.insert_order.specs.Passes.{followsPlain, isGreater, lastOrder, runStart, meetsPlain, lastPlain, repeats, quickClash};
 use item_check::Checked;
 use item_check::MOST_ITEMS;
 use item_check::check_fault;
@@ -19,6 +19,9 @@ use item_check::check_items;
 use item_check::check_pool;
 use item_check::refuse;
 use item_check::upright_fault;
+use item_words::ITEM_SIZE;
+use item_words::item_at;
+use item_words::query_item;
 use key_order::Ordering;
 use query_item::ItemWords;
 use query_item::RangeSet;
@@ -26,9 +29,6 @@ use query_item::boundary::compare_in;
 use query_item::boundary::compare_keys;
 use query_item::boundary::is_equal;
 use query_item::boundary::is_less;
-use query_item::item::ITEM_SIZE;
-use query_item::item::item_at;
-use query_item::item::query_item;
 
 // inner: all that is refused before the room: the pool, the list, the new item.
 pub fn check_input(pool: &[u8], words: &[u32], count: usize, item: ItemWords) -> Checked
@@ -65,9 +65,11 @@ fn check_ordered(pool: &[u8], words: &[u32], count: usize) -> Checked
     }
 }
 
-// The first item that breaks insertion order with any earlier one; 4. Of the earlier ones only the last, the last plain one and the run of
-// items of the same range, at most seven, have to be asked.
+// The first item that breaks insertion order with any earlier one; 4. A plain item that starts above the end of the item before it, which is
+// plain too, breaks no rule. Otherwise only the last of the earlier ones, the last plain one and the run of items of the same range, at
+// most seven, have to be asked.
 fn check_order(pool: &[u8], words: &[u32], count: usize) -> Checked
+    requires { ⌜ firstBad (now pool) 0 0 (itemsFrom (now words) 0 count) ≡ accepted ⌝ }
     ensures { λ r. ⌜ verdictOf r ≡ orderVerdict (now (pool .entry)) (itemsFrom (now (words .entry)) 0 count) ⌝ }
 {
     let mut run: usize = 0;
@@ -75,15 +77,31 @@ fn check_order(pool: &[u8], words: &[u32], count: usize) -> Checked
     let mut i: usize = 0;
     while i < count {
         let item = item_at(words, i);
-        let order = last_order(pool, words, i, item);
-        run = run_start(order, i, run);
-        if is_clash(pool, words, order, run, plain_end, i, item) {
-            return refuse(4, 0, i);
+        if follows_plain(pool, words, plain_end, i, item) {
+            run = i;
+            i += 1;
+            plain_end = i;
+        } else {
+            let order = last_order(pool, words, i, item);
+            run = run_start(order, i, run);
+            if is_clash(pool, words, order, run, plain_end, i, item) {
+                return refuse(4, 0, i);
+            }
+            i += 1;
+            plain_end = last_plain(item, i, plain_end);
         }
-        i += 1;
-        plain_end = last_plain(item, i, plain_end);
     }
     Checked::Accepted
+}
+
+// Whether an item and the one before the index i are plain, and it starts above the end of that.
+fn follows_plain(pool: &[u8], words: &[u32], plain_end: usize, i: usize, item: ItemWords) -> bool
+    ensures { λ r. ⌜ r ≡ followsPlain (now (pool .entry)) (now (words .entry)) «plain_end» i item ⌝ }
+{
+    if (i < 1) | !(plain_end == i) | !(item.wrapper == 0) {
+        return false;
+    }
+    ends_below(pool, item_at(words, i - 1), item)
 }
 
 // How the item before the index i stands to an item; where there is none it counts as below.
@@ -193,14 +211,14 @@ pub fn ends_below(pool: &[u8], x: ItemWords, y: ItemWords) -> bool
 pub fn is_same(pool: &[u8], x: ItemWords, y: ItemWords) -> bool
     ensures { λ r. ⌜ r ≡ sameItem (now (pool .entry)) x y ⌝ }
 {
+    if !((x.code == y.code) & (x.wrapper == y.wrapper)) {
+        return false;
+    }
     let a = x.start;
     let b = y.start;
     let c = x.end;
     let d = y.end;
-    (x.code == y.code)
-        & (x.wrapper == y.wrapper)
-        & is_equal(compare_keys(pool, a, b))
-        & is_equal(compare_keys(pool, c, d))
+    is_equal(compare_keys(pool, a, b)) & is_equal(compare_keys(pool, c, d))
 }
 
 // inner: whether an item has no wrapper.

@@ -11,11 +11,12 @@ use Rattle.intersect.specs.Pair.{meetSets, leftOver, rightOver}
 use Rattle.intersect_many.specs.Lists.{convertAll, sharedItems, onlyItems, wordsAll}
 use Rattle.insert_order.specs.Order.{orderItems, sameItem, endsBelow, clashes}
 use Rattle.insert_order.specs.Refusals.{firstClash}
-use Rattle.insert.specs.Insertion.{fateOf, staying, merged, mergedWith, placed, inserted}
+use Rattle.insert_merge.specs.Merge.{fateOf, staying, merged, mergedWith}
+use Rattle.insert.specs.Insertion.{placed, inserted}
 use Rattle.pairs_sort.specs.Pairs.{pairsFrom}
 use Rattle.position_intervals.specs.Given.{firstTouching, canonicalVerdict, firstFalling, ascendingVerdict}
 use Rattle.position_intervals.specs.Asked.{countUp, positionsOf}
-use Rattle.position_query.specs.Keys.{beBytes}
+use Rattle.position_key.specs.Keys.{beBytes}
 use Rattle.position_query.specs.Covered.{holdsPosition, someHolds, covered, firstFault}
 use Rattle.position_mismatch.specs.Reports.{isIn, keep, missing, reportOf}
 use Rattle.rows.specs.Rows.{Result, Row, rows}

@@ -17,10 +17,10 @@ use Rattle.pairs_sort.specs.Pairs.{joinedFrom, joined, pairs}
 use Rattle.pairs_sort.proofs.Laws.{pairs-length}
 use Rattle.pairs_sort.proofs.Joined.{Starts, joined-canonical, holds-joined}
 use Rattle.position_intervals.specs.Inner.{lastWord}
-use Rattle.position_query.specs.Keys.{be}
+use Rattle.key_order.specs.Words.{be}
 use Rattle.position_query.specs.Covered.{firstFault, queryVerdict, FromQueryItems}
 use Rattle.position_query.specs.Inner.{ranges}
-use Rattle.position_query.proofs.Keys.{Bytes}
+use Rattle.key_order.proofs.Words.{Bytes}
 use Rattle.position_query.proofs.Ranges.{ranges-covered, ranges-needed}
 use Rattle.rows.specs.Rows.{full, logKeys, logItems}
 

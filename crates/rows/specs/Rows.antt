@@ -25,7 +25,7 @@ use Rattle.intersect_many.specs.Demand.{Shown, shown}
 use Rattle.insert.specs.Answers.{insertAnswer, listAfter}
 use Rattle.position_intervals.specs.Asked.{countUp, containsAnswer}
 use Rattle.position_intervals.specs.Inner.{lastWord}
-use Rattle.position_query.specs.Keys.{keySize}
+use Rattle.position_key.specs.Keys.{keySize}
 use Rattle.position_query.specs.Covered.{covered, queryVerdict}
 use Rattle.position_mismatch.specs.declared.PositionMismatch.{PositionMismatch}
 use Rattle.position_mismatch.specs.Reports.{keep, missingAnswer}

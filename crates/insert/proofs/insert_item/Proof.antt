@@ -8,7 +8,8 @@ use Rattle.insert.proofs.insert_item.Tie as tie
 insert-checked-requires : tie.Need-insert-checked-requires
 insert-checked-requires c κs =
     let args = c .before .before .before .before .before .before .before .args in
-    input-count (args .pool .now) (args .words .now) (args .count) (args .item) (rw (c .before .enum-told .given .1) at (sym (c .before .before .before .check-input .ensures)))
+    let ok = rw (c .before .enum-told .given .1) at (sym (c .before .before .before .check-input .ensures)) in
+    (input-count (args .pool .now) (args .words .now) (args .count) (args .item) ok, ok)
 
 returns : tie.Need-returns
 returns c =

@@ -3,10 +3,12 @@
 -- what is left of the list. Assumes nothing.
 use Prim.Native.Nat.{_-_}
 use mathlib.Core.Path.{_≡_, sym, _∙_}
+use native.Mathlib.Omega.{arith}
 use borrow.Author.Needs.{needs}
 use Rattle.query_item.specs.Items.{itemsFrom}
 use Rattle.insert_order.specs.Refusals.{firstClash, orderVerdict}
-use Rattle.insert_order.proofs.Seen.{earlier, Seen, seen-start, seen-more, quick-some, quick-none, clear-none, order-start, order-here, order-next, order-end}
+use Rattle.insert_order.proofs.Seen.{earlier, Seen, seen-start, seen-more, seen-next, quick-some, quick-none, clear-none, order-start, order-here, order-next, order-end}
+use Rattle.insert_order.proofs.Accepted.{upright-at}
 use Rattle.insert_order.proofs.check_order.Statement.{statement}
 use Rattle.insert_order.proofs.check_order.Tie as tie
 
@@ -25,22 +27,33 @@ returns : tie.Need-returns Inv-loop μ-loop
 returns c =
     let clash = c .before .before in
     let run = clash .before in
-    let item = run .before .before in
+    let item = run .before .before .before .before in
     let turn = item .before .before in
     let order = rw (item .item-at .ensures) at (run .before .last-order .ensures) in
-    let found = rw (item .item-at .ensures) at (sym (clash .is-clash .ensures) ∙ c .before .if1 .taken) in
+    let found = rw (item .item-at .ensures) at (sym (clash .is-clash .ensures) ∙ c .before .if2 .taken) in
     c .refuse .ensures
     ∙ sym (turn .loop .inv .0
     ∙ order-here _ _ _ _ (item .before .loop-test .taken) (quick-some _ _ _ _ _ (turn .loop .inv .1) _ _ order _ (run .run-start .ensures) found))
 
 loop-again : tie.Need-loop-again Inv-loop μ-loop
 loop-again c =
+    let item = c .before .before in
+    let turn = item .before .before in
+    let more = item .before .loop-test .taken in
+    let start = turn .before .before .before in
+    let next =
+    seen-next _ _ _ _ _ (turn .loop .inv .1) (item .item-at .ensures) (λ h. upright-at _ _ _ (start .pre) _ (omega (arith, more)))
+    (sym (c .before .follows-plain .ensures) ∙ c .if1 .taken) in
+    (turn .loop .inv .0 ∙ order-next _ _ _ _ more (next .0), next .1)
+
+loop-again-2 : tie.Need-loop-again-2 Inv-loop μ-loop
+loop-again-2 c =
     let clash = c .before .before in
     let run = clash .before in
-    let item = run .before .before in
+    let item = run .before .before .before .before in
     let turn = item .before .before in
     let order = rw (item .item-at .ensures) at (run .before .last-order .ensures) in
-    let none = rw (item .item-at .ensures) at (sym (clash .is-clash .ensures) ∙ c .before .if1 .left) in
+    let none = rw (item .item-at .ensures) at (sym (clash .is-clash .ensures) ∙ c .before .if2 .left) in
     let clear = quick-none _ _ _ _ _ (turn .loop .inv .1) _ _ order _ (run .run-start .ensures) none in (
       turn .loop .inv .0 ∙ order-next _ _ _ _ (item .before .loop-test .taken) (clear-none _ _ _ _ _ _ _ _ _ _ _ clear),
       seen-more _ _ _ _ _ _ _ _ _ _ _ clear (rw (item .item-at .ensures) at (c .last-plain .ensures)),
@@ -58,6 +71,10 @@ check-order-spec =
     loop-holds
     (λ c κs. search needs)
     (λ c κs. search needs)
+    (λ c. search needs)
+    (λ c. search needs)
+    loop-again
+    (λ c κs. search needs)
     (λ c κs. search needs)
     (λ c κs. search needs)
     (λ c κs. search needs)
@@ -65,5 +82,5 @@ check-order-spec =
     (λ c. search needs)
     (λ c κs. search needs)
     (λ c. search needs)
-    loop-again
+    loop-again-2
     returns-2)
