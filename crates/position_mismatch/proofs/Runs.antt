@@ -10,8 +10,24 @@ use Rattle.pairs_sort.specs.Pairs.{finish}
 use Rattle.position_intervals.specs.Asked.{countUp}
 use Rattle.position_intervals.specs.Inner.{lastWord}
 use Rattle.position_intervals.proofs.Widths.{length-count}
+use Rattle.position_mismatch.specs.declared.PositionMismatch.{PositionMismatch}
 use Rattle.position_mismatch.specs.Reports.{mostReported, reportOf}
 use Rattle.position_mismatch.specs.Inner.{withRun}
+
+-- ---- a run that is not stored
+
+pub run-none : (e : List ℕ) (n from k : ℕ) → k ≡ 0 → e ≡ sets e n (countUp from k)
+unfolding countUp
+run-none e n from k h = rw h
+
+pub run-empty : (r : PositionMismatch) (from width : ℕ) → width ≡ 0 → r .total ≤ lastWord → r ≡ withRun r from width
+unfolding withRun
+run-empty r from width h l =
+    let t : r .total ≡ min (r .total + width) lastWord = omega arith in
+    let k : min (mostReported - r .count) width ≡ 0 = omega arith in
+    let c : r .count ≡ r .count + min (mostReported - r .count) width = omega arith in
+    let e = run-none (r .examples) (r .count) from (min (mostReported - r .count) width) k in
+    λ i. record { total = t i; count = c i; examples = e i }
 
 -- ---- a turn
 

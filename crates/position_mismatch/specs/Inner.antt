@@ -16,11 +16,20 @@ use Rattle.position_intervals.specs.Asked.{countUp}
 use Rattle.position_intervals.specs.Inner.{lastWord}
 use Rattle.position_mismatch.specs.declared.PositionMismatch.{PositionMismatch}
 use Rattle.position_mismatch.specs.declared.Walk.{Walk}
+use Rattle.position_mismatch.specs.declared.gaps.Counted.{Counted}
+use Rattle.position_mismatch.specs.declared.gaps.Place.{Place}
 use Rattle.position_mismatch.specs.declared.SpanWalk.{SpanWalk}
 use Rattle.position_mismatch.specs.declared.Compared.{Compared}
 use Rattle.position_mismatch.specs.Reports.{mostReported, reportOf}
 
 -- ---- reports that grow
+
+abbrev pub reportAt : ℕ → ℕ → List ℕ → PositionMismatch
+reportAt n k l = record { total = n; count = k; examples = l }
+
+-- a report whose examples are lent
+abbrev pub reportWith : Counted → List ℕ → PositionMismatch
+reportWith c examples = reportAt (c .total) (c .count) examples
 
 -- a report with a run of positions added, width of them from `from` on: as many examples as there are places
 unfoldable pub withRun : PositionMismatch → ℕ → ℕ → PositionMismatch
@@ -34,6 +43,10 @@ withRun r from width = record {
 
 abbrev pub walkAt : ℕ → ℕ → PositionMismatch → Walk
 walkAt i x r = record { pair = i; from = x; report = r }
+
+-- a walk whose examples are lent
+abbrev pub walkWith : Place → List ℕ → Walk
+walkWith p examples = walkAt (p .pair) (p .from) (reportAt (p .total) (p .count) examples)
 
 -- what an interval has from w's place on, below `to`, added to w's report
 abbrev pub withGap : Interval → Walk → ℕ → PositionMismatch

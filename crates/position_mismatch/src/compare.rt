@@ -8,7 +8,8 @@ ghost use Rattle.position_intervals.specs.Inner.{Sound, Ascends, lastWord};
 ghost use Rattle.position_mismatch.specs.Reports.{missing, extra, reportOf, comparedOf, reportIn, missingAnswer, extraAnswer};
 use crate::Compared;
 use crate::PositionMismatch;
-use crate::Walk;
+use crate::gaps::Counted;
+use crate::gaps::Place;
 use crate::gaps::first_past;
 use crate::gaps::over_span;
 use crate::gaps::push_run;
@@ -63,19 +64,25 @@ fn missing_positions(intervals: &[u64], proved: &[u64]) -> PositionMismatch
     requires sound { ⌜ Sound (now intervals) × Ascends 0 (now proved) ⌝ }
     ensures { λ r. ⌜ r ≡ reportOf (missing (intervalsOf (now (intervals .entry))) (now (proved .entry))) ⌝ }
 {
-    let report = PositionMismatch::empty();
-    let mut walk = Walk {
+    let mut examples = [0; PositionMismatch::MAX_REPORTED_POSITIONS];
+    let mut place = Place {
         pair: 0,
         from: 0,
-        report,
+        total: 0,
+        count: 0,
     };
     let mut i: usize = 0;
     while i < proved.len() {
         let p = proved[i];
-        walk = over_span(intervals, walk, p, after(p));
+        place = over_span(intervals, &mut examples, place, p, after(p));
         i += 1;
     }
-    report_until(intervals, walk, LAST_WORD).report
+    let last = report_until(intervals, &mut examples, place, LAST_WORD);
+    PositionMismatch {
+        total: last.total,
+        count: last.count,
+        examples,
+    }
 }
 
 // The position after p, or p where it is the last u64, which nothing covers.
@@ -93,7 +100,8 @@ fn extra_positions(intervals: &[u64], proved: &[u64]) -> PositionMismatch
     requires sound { ⌜ Sound (now intervals) × Ascends 0 (now proved) ⌝ }
     ensures { λ r. ⌜ r ≡ reportOf (extra (intervalsOf (now (intervals .entry))) (now (proved .entry))) ⌝ }
 {
-    let mut report = PositionMismatch::empty();
+    let mut examples = [0; PositionMismatch::MAX_REPORTED_POSITIONS];
+    let mut counted = Counted { total: 0, count: 0 };
     let mut pair: usize = 0;
     let mut i: usize = 0;
     while i < proved.len() {
@@ -101,8 +109,12 @@ fn extra_positions(intervals: &[u64], proved: &[u64]) -> PositionMismatch
         i += 1;
         pair = first_past(intervals, pair, p);
         if !starts_by(intervals, pair, p) {
-            report = push_run(report, p, 1);
+            counted = push_run(&mut examples, counted.total, counted.count, p, 1);
         }
     }
-    report
+    PositionMismatch {
+        total: counted.total,
+        count: counted.count,
+        examples,
+    }
 }

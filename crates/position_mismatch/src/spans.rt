@@ -9,6 +9,7 @@ use crate::PositionMismatch;
 use crate::SpanWalk;
 use crate::Walk;
 use crate::compare::without_report;
+use crate::gaps::Place;
 use crate::gaps::over_span;
 use crate::gaps::report_until;
 use item_check::Checked;
@@ -52,11 +53,29 @@ fn step_on(intervals: &[u64], so_far: SpanWalk, start: u64, end: u64) -> SpanWal
     let seen = so_far.seen;
     let walk = so_far.walk;
     if (walk.from <= start) & (start <= end) {
-        let next = over_span(intervals, walk, start, end);
+        let report = walk.report;
+        let mut examples = report.examples;
+        let place = Place {
+            pair: walk.pair,
+            from: walk.from,
+            total: report.total,
+            count: report.count,
+        };
+        let next = over_span(intervals, &mut examples, place, start, end);
+        let report = PositionMismatch {
+            total: next.total,
+            count: next.count,
+            examples,
+        };
+        let walk = Walk {
+            pair: next.pair,
+            from: next.from,
+            report,
+        };
         return SpanWalk {
             checked: Checked::Accepted,
             seen: one_more(seen),
-            walk: next,
+            walk,
         };
     }
     SpanWalk {
@@ -88,7 +107,20 @@ pub fn finish(intervals: &[u64], so_far: SpanWalk) -> Compared
     match checked {
         Checked::Refused(r) => without_report(Checked::Refused(r)),
         Checked::Accepted => {
-            let report = report_until(intervals, walk, LAST_WORD).report;
+            let report = walk.report;
+            let mut examples = report.examples;
+            let place = Place {
+                pair: walk.pair,
+                from: walk.from,
+                total: report.total,
+                count: report.count,
+            };
+            let last = report_until(intervals, &mut examples, place, LAST_WORD);
+            let report = PositionMismatch {
+                total: last.total,
+                count: last.count,
+                examples,
+            };
             Compared {
                 checked: Checked::Accepted,
                 report,

@@ -1,5 +1,5 @@
 // Replays recorded answers of module 6, by the code of the call: 1 be_u64, 2 from_query_items, 3 contains, 4 len, 5 is_empty, 6 missing_from,
-// 7 extra_in, 8 missing_from_spans by its steps, 9 describe.
+// 7 extra_in, 8 missing_from_spans of an array, 9 describe.
 mod asked;
 mod query;
 mod reports;

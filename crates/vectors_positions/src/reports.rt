@@ -14,7 +14,9 @@ use position_mismatch::Compared;
 use position_mismatch::PositionMismatch;
 use position_mismatch::compare::extra_in;
 use position_mismatch::compare::missing_from;
-use position_mismatch::spans;
+use position_spans::FEW_SPANS;
+use position_spans::Span;
+use position_spans::missing_from_few_spans;
 use vectors::Cursor;
 use vectors::Met;
 use vectors::answers::answered;
@@ -22,6 +24,7 @@ use vectors::answers::holds_bytes;
 use vectors::answers::holds_long;
 use vectors::answers::holds_short;
 use vectors::answers::is_all;
+use vectors::answers::nothing_met;
 use vectors::answers::refusal_met;
 use vectors::least;
 use vectors::long;
@@ -68,20 +71,42 @@ pub(crate) fn missing_from_spans_met<'a>(
     a: &'a [u8],
     rust: &'a [u8],
 ) -> Met {
-    report_met(a, rust, walk_spans(x, after(x, FRONT), intervals))
+    let at = after(x, FRONT);
+    let count = short(x, at) as usize / 2;
+    if FEW_SPANS < count {
+        return nothing_met();
+    }
+    report_met(
+        a,
+        rust,
+        missing_from_few_spans(intervals, few_spans(x, on(x, at, 2), count)),
+    )
 }
 
-// Spans are numbers by twos.
-fn walk_spans(x: &[u8], c: Cursor, intervals: &[u64]) -> Compared {
-    let mut walk = spans::start(intervals);
-    let mut at = on(x, c, 2);
-    let mut left = short(x, c) / 2;
-    while 0 < left {
-        walk = spans::step(intervals, walk, long(x, at), long(x, on(x, at, 8)));
+// So many spans, numbers by twos, and empty ones at the last end.
+fn few_spans(x: &[u8], c: Cursor, count: usize) -> [Span; FEW_SPANS] {
+    let mut all = [Span { start: 0, end: 0 }; FEW_SPANS];
+    let mut at = c;
+    let mut end: u64 = 0;
+    let mut i = 0;
+    while i < FEW_SPANS {
+        let span = span_or_empty(x, at, i < count, end);
+        all[i] = span;
+        end = span.end;
         at = on(x, at, 16);
-        left -= 1;
+        i += 1;
     }
-    spans::finish(intervals, walk)
+    all
+}
+
+fn span_or_empty(x: &[u8], at: Cursor, given: bool, end: u64) -> Span {
+    if given {
+        return Span {
+            start: long(x, at),
+            end: long(x, on(x, at, 8)),
+        };
+    }
+    Span { start: end, end }
 }
 
 fn report_met<'a>(a: &'a [u8], rust: &'a [u8], compared: Compared) -> Met {

@@ -5,42 +5,45 @@ use native.Mathlib.Omega.{arith}
 use lib.ListN.{length}
 use denote.Ref.{now}
 use borrow.Author.Tests.{not-true, not-false}
+use Rattle.position_mismatch.specs.Reports.{reportOf}
+use Rattle.position_mismatch.specs.Inner.{reportWith}
 use Rattle.position_mismatch.proofs.Turns.{Sorted, sorted-start, sorted-held, sorted-extra, sorted-end}
 use borrow.Author.Needs.{needs}
 use Rattle.position_mismatch.proofs.compare.extra_positions.Statement.{statement}
 use Rattle.position_mismatch.proofs.compare.extra_positions.Tie as tie
 
 abbrev Inv-loop : tie.InvT-loop
-Inv-loop intervals proved report₀ pair₀ i₀ report pair i = Sorted intervals proved report pair i
+Inv-loop intervals proved examples₀ counted₀ pair₀ i₀ examples counted pair i = Sorted intervals proved (reportWith counted examples) pair i
 
 abbrev μ-loop : tie.MeasureT-loop
-μ-loop intervals proved report₀ pair₀ i₀ report pair i = length proved - i
+μ-loop intervals proved examples₀ counted₀ pair₀ i₀ examples counted pair i = length proved - i
 
 loop-holds : tie.Need-loop-holds Inv-loop μ-loop
+unfolding reportOf
 loop-holds c =
-    let s = c .before .before .before in
-    rw (c .empty .ensures) (sorted-start (now (s .args .intervals)) (now (s .args .proved)) (s .pre .0) (s .pre .1))
+    let s = c .before .before in
+    sorted-start (now (s .args .intervals)) (now (s .args .proved)) (s .pre .0) (s .pre .1)
 
 push-run-requires : tie.Need-push-run-requires Inv-loop μ-loop
-push-run-requires c κs = omega (arith, c .before .before .before .shared-slice-known3 .given (c .before .before .before .before .before .loop .i))
+push-run-requires c κs = omega (arith, c .before .before .before .before .shared-slice-known3 .given (c .before .before .before .before .before .before .loop .i))
 
 loop-again : tie.Need-loop-again Inv-loop μ-loop
 loop-again c =
     let s = c .before .before .before .before .before .before .before .before .before .before in
-    let l = c .before .before .before .before .before .before .loop in
-    sorted-extra (now (s .args .intervals)) (now (s .args .proved)) (s .pre .0) (l .report) (l .pair) (l .i) (c .before .before .before .first-past .result) (c .before .before .starts-by .result) (l .inv) (c .before .before .before .before .before .loop-test .taken) (c .before .before .before .first-past .ensures) (c .before .before .starts-by .ensures) (c .push-run .result) (not-true _ (c .before .if1 .taken)) (omega arith) (c .push-run .ensures)
+    let l = c .before .before .before .before .before .before .before .loop in
+    sorted-extra (now (s .args .intervals)) (now (s .args .proved)) (s .pre .0) (reportWith (l .counted) (l .examples)) (l .pair) (l .i) (c .before .before .before .before .first-past .result) (c .before .before .before .starts-by .result) (l .inv) (c .before .before .before .before .before .before .loop-test .taken) (c .before .before .before .before .first-past .ensures) (c .before .before .before .starts-by .ensures) (reportWith (c .push-run .result) (c .push-run .last .0)) (not-true _ (c .before .before .if1 .taken)) (omega arith) (c .push-run .ensures)
 
 loop-again-2 : tie.Need-loop-again-2 Inv-loop μ-loop
 loop-again-2 c =
-    let s = c .before .before .before .before .before .before .before .before .before in
+    let s = c .before .before .before .before .before .before .before .before in
     let l = c .before .before .before .before .before .loop in
-    sorted-held (now (s .args .intervals)) (now (s .args .proved)) (s .pre .0) (l .report) (l .pair) (l .i) (c .before .before .first-past .result) (c .before .starts-by .result) (l .inv) (c .before .before .before .before .loop-test .taken) (c .before .before .first-past .ensures) (c .before .starts-by .ensures) (not-false _ (c .if1 .left))
+    sorted-held (now (s .args .intervals)) (now (s .args .proved)) (s .pre .0) (reportWith (l .counted) (l .examples)) (l .pair) (l .i) (c .before .before .first-past .result) (c .before .starts-by .result) (l .inv) (c .before .before .before .before .loop-test .taken) (c .before .before .first-past .ensures) (c .before .starts-by .ensures) (not-false _ (c .if1 .left))
 
 returns : tie.Need-returns Inv-loop μ-loop
 returns c =
-    let s = c .before .before .before .before .before in
+    let s = c .before .before .before .before in
     let l = c .before .loop in
-    sorted-end (now (s .args .intervals)) (now (s .args .proved)) (s .pre .0) (l .report) (l .pair) (l .i) (l .inv) (c .loop-test .left)
+    sorted-end (now (s .args .intervals)) (now (s .args .proved)) (s .pre .0) (reportWith (l .counted) (l .examples)) (l .pair) (l .i) (l .inv) (c .loop-test .left)
 
 pub extra-positions-spec : {M : Type 1} → statement M
 extra-positions-spec =
@@ -48,7 +51,6 @@ extra-positions-spec =
     (tie.spec
     Inv-loop
     μ-loop
-    (λ c κs. search needs)
     loop-holds
     (λ c. search needs)
     (λ c. search needs)

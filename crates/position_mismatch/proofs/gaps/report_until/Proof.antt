@@ -4,34 +4,46 @@ use mathlib.Core.Path.{_≡_, refl, sym, _∙_}
 use lib.ListN.{length}
 use denote.Ref.{now}
 use Rattle.pairs_sort.specs.Pairs.{pairsFrom}
-use Rattle.position_mismatch.specs.Inner.{reportUntil, walkAt}
+use Rattle.position_mismatch.specs.Inner.{reportWith, reportUntil, walkAt}
 use Rattle.position_mismatch.proofs.Walks.{until-end, until-stop, until-next}
 use borrow.Author.Needs.{needs}
 use Rattle.position_mismatch.proofs.gaps.report_until.Statement.{statement}
 use Rattle.position_mismatch.proofs.gaps.report_until.Tie as tie
 
 abbrev Inv-loop : tie.InvT-loop
-Inv-loop intervals to count from report₀ i₀ report i =
-    (count ≡ length intervals / 2)
-    × (reportUntil (pairsFrom intervals i₀ (count - i₀)) (walkAt i₀ from report₀) to ≡ reportUntil (pairsFrom intervals i (count - i)) (walkAt i from report) to)
+Inv-loop intervals examples₀ to pairs from counted₀ i₀ examples counted i =
+    (pairs ≡ length intervals / 2)
+    × (reportUntil (pairsFrom intervals i₀ (pairs - i₀)) (walkAt i₀ from (reportWith counted₀ examples₀)) to
+    ≡ reportUntil (pairsFrom intervals i (pairs - i)) (walkAt i from (reportWith counted examples)) to)
 
 abbrev μ-loop : tie.MeasureT-loop
-μ-loop intervals to count from report₀ i₀ report i = count - i
+μ-loop intervals examples₀ to pairs from counted₀ i₀ examples counted i = pairs - i
 
 loop-holds : tie.Need-loop-holds Inv-loop μ-loop
 loop-holds c = (search needs, refl)
 
+push-run-requires : tie.Need-push-run-requires Inv-loop μ-loop
+push-run-requires c κs = search needs
+
 returns : tie.Need-returns Inv-loop μ-loop
 returns c =
-    let l = c .before .before .before .before .before .before .before .before .loop in
+    let l = c .before .before .before .before .before .before .before .before .before .loop in
     let a = c .before .before .before .before .before .before .before .before .before .before .before .args in
-    sym (l .inv .1 ∙ until-stop (now (a .intervals)) (length (now (a .intervals)) / 2) (l .i) (a .walk .from) (a .to) (l .report) (c .before .before .before .before .before .larger .result) (c .before .before .before .smaller .result) (c .before .before .width .result) (c .before .push-run .result) (c .before .before .before .before .before .larger .ensures) (c .before .before .before .smaller .ensures) (c .before .before .width .ensures) (c .before .push-run .ensures) (c .before .before .before .before .before .before .before .loop-test .taken) (c .if1 .taken))
+    sym (l .inv .1 ∙ until-stop (now (a .intervals)) (length (now (a .intervals)) / 2) (l .i) (a .place .from) (a .to) (reportWith (l .counted) (l .examples))
+    (c .before .before .before .before .before .before .larger .result) (c .before .before .before .smaller .result) (c .before .before .width .result) (reportWith (c .before .push-run .result) (c .before .push-run .last .0))
+    (c .before .before .before .before .before .before .larger .ensures) (c .before .before .before .smaller .ensures) (c .before .before .width .ensures) (c .before .push-run .ensures)
+    (c .before .before .before .before .before .before .before .before .loop-test .taken) (c .if1 .taken))
 
 loop-again : tie.Need-loop-again Inv-loop μ-loop
 loop-again c =
-    let l = c .before .before .before .before .before .before .before .before .loop in
-    let a = c .before .before .before .before .before .before .before .before .before .before .before .args in
-    (search needs, l .inv .1 ∙ until-next (now (a .intervals)) (length (now (a .intervals)) / 2) (l .i) (a .walk .from) (a .to) (l .report) (c .before .before .before .before .before .larger .result) (c .before .before .before .smaller .result) (c .before .before .width .result) (c .before .push-run .result) (c .before .before .before .before .before .larger .ensures) (c .before .before .before .smaller .ensures) (c .before .before .width .ensures) (c .before .push-run .ensures) (c .before .before .before .before .before .before .before .loop-test .taken) (c .if1 .left))
+    let l = c .before .before .before .before .before .before .before .before .before .loop in
+    let a = c .before .before .before .before .before .before .before .before .before .before .before .args in (
+      search needs,
+      l .inv .1 ∙ until-next (now (a .intervals)) (length (now (a .intervals)) / 2) (l .i) (a .place .from) (a .to) (reportWith (l .counted) (l .examples))
+          (c .before .before .before .before .before .before .larger .result) (c .before .before .before .smaller .result) (c .before .before .width .result) (reportWith (c .before .push-run .result) (c .before .push-run .last .0))
+          (c .before .before .before .before .before .before .larger .ensures) (c .before .before .before .smaller .ensures) (c .before .before .width .ensures) (c .before .push-run .ensures)
+          (c .before .before .before .before .before .before .before .before .loop-test .taken) (c .if1 .left),
+    )
 
 returns-2 : tie.Need-returns-2 Inv-loop μ-loop
 returns-2 c = sym (c .before .loop .inv .1 ∙ until-end _ _ _ _ _ _ (c .loop-test .left))

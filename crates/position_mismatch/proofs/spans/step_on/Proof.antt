@@ -1,10 +1,11 @@
 -- `step_on` meets its contract: both tests at once. Assumes nothing.
+use Rattle.item_check.specs.declared.Checked.the-variants.{Accepted}
 use borrow.Author.Needs.{needs}
 use Rattle.position_mismatch.proofs.spans.step_on.Statement.{statement}
 use Rattle.position_mismatch.proofs.spans.step_on.Tie as tie
 
 returns : tie.Need-returns
-returns c = rw (c .before .before .if1 .taken, c .one-more .ensures, c .before .over-span .ensures)
+returns c = rw (c .before .before .before .before .before .if1 .taken) (λ i. record { checked = Accepted; seen = c .one-more .ensures i; walk = c .before .over-span .ensures i })
 
 returns-2 : tie.Need-returns-2
 returns-2 c = rw (c .if1 .left)

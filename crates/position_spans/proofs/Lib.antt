@@ -1,0 +1,4 @@
+pub mod Both
+pub mod Known
+pub mod Laws
+pub mod Stepped
