@@ -6,13 +6,14 @@ use native.Mathlib.Omega.{arith}
 use borrow.Author.Tests.{leb-true}
 use Rattle.key_order.specs.declared.Ordering.{Ordering}
 use Rattle.key_order.specs.declared.Ordering.the-variants.{Less, Equal, Greater}
-use Rattle.query_item.specs.declared.BoundaryKind.{BoundaryKind}
-use Rattle.query_item.specs.declared.BoundaryKind.the-variants as kind
 use Rattle.query_item.specs.declared.RangeSetItem.{RangeSetItem}
 use Rattle.query_item.specs.declared.RangeSetItem.the-variants.{UnboundedStart, UnboundedEnd, Inclusive, ExclusiveStart, ExclusiveEnd}
 use Rattle.query_item.specs.declared.RangeSet.{RangeSet}
 use Rattle.query_item.specs.Boundaries.{kindOf, keyOf, withKey}
-use Rattle.fernsponge.specs.Answers.{orderNumber, kindNumber, isKind, kindNumbered, setWords, setOfWords, mostIndex, refusalNumber}
+use Rattle.range_borrowed.specs.Kinds.{kindNumber, kindNumbered}
+-- the kind of a kind's number is that kind
+pub use Rattle.range_borrowed.proofs.Laws.{kind-of-number}
+use Rattle.fernsponge.specs.Answers.{orderNumber, isKind, setWords, setOfWords, mostIndex, refusalNumber}
 
 pub order-number-apart : (o p : Ordering) → orderNumber o ≡ orderNumber p → o ≡ p
 order-number-apart Less Less e = refl
@@ -25,14 +26,7 @@ order-number-apart Greater Less e = absurd (omega arith)
 order-number-apart Greater Equal e = absurd (omega arith)
 order-number-apart Greater Greater e = refl
 
--- the kind of a kind's number is that kind, and the number of a number's kind that number
-pub kind-of-number : (k : BoundaryKind) → kindNumbered (kindNumber k) ≡ k
-kind-of-number kind.UnboundedStart = refl
-kind-of-number kind.UnboundedEnd = refl
-kind-of-number kind.Inclusive = refl
-kind-of-number kind.ExclusiveStart = refl
-kind-of-number kind.ExclusiveEnd = refl
-
+-- the number of a number's kind is that number
 pub number-of-kind : (n : ℕ) → isKind n ≡ true → kindNumber (kindNumbered n) ≡ n
 number-of-kind zero e = refl
 number-of-kind (suc zero) e = refl

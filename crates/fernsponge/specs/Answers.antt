@@ -2,18 +2,17 @@
 use Prim.Native.Nat.{ℕ, _+_, _*_, min}
 use mathlib.Core.List.{List, [], _∷_}
 use mathlib.Core.Bool.{Bool, cond}
-use lib.Dec.{leb, eqb}
+use lib.Dec.{leb}
 use Rattle.key_order.specs.declared.Ordering.{Ordering}
 use Rattle.key_order.specs.declared.Ordering.the-variants.{Less, Equal, Greater}
-use Rattle.query_item.specs.declared.BoundaryKind.{BoundaryKind}
-use Rattle.query_item.specs.declared.BoundaryKind.the-variants.{UnboundedStart, UnboundedEnd, Inclusive, ExclusiveStart, ExclusiveEnd}
 use Rattle.query_item.specs.declared.ItemWords.{ItemWords}
 use Rattle.query_item.specs.declared.RangeSet.{RangeSet}
 use Rattle.query_item.specs.declared.MaybeItem.{MaybeItem}
 use Rattle.query_item.specs.declared.MaybeItem.the-variants.{NoItem, Item}
-use Rattle.item_ask.specs.declared.KeyContainmentResult.{KeyContainmentResult}
 use Rattle.query_item.specs.Items.{absent, itemWords, wordsOf, flat}
 use Rattle.query_item.specs.Boundaries.{kindOf, keyOf, withKey, fromTo}
+use Rattle.range_borrowed.specs.declared.KeyContainmentResult.{KeyContainmentResult}
+use Rattle.range_borrowed.specs.Kinds.{kindNumber, kindNumbered}
 use Rattle.item_check.specs.Checks.{Answer, answered, refused}
 
 -- ---- numbers
@@ -28,24 +27,9 @@ orderNumber Greater = 2
 abbrev pub boolNumber : Bool → ℕ
 boolNumber b = cond b 1 0
 
-abbrev pub kindNumber : BoundaryKind → ℕ
-kindNumber UnboundedStart = 0
-kindNumber UnboundedEnd = 1
-kindNumber Inclusive = 2
-kindNumber ExclusiveStart = 3
-kindNumber ExclusiveEnd = 4
-
+-- the numbers of the five kinds
 abbrev pub isKind : ℕ → Bool
 isKind n = leb n 4
-
--- the kind of a number; what is no kind is refused before it is read
-abbrev pub kindNumbered : ℕ → BoundaryKind
-kindNumbered n =
-    cond (eqb n 0) UnboundedStart
-    (cond (eqb n 1) UnboundedEnd
-    (cond (eqb n 2) Inclusive
-    (cond (eqb n 3) ExclusiveStart
-    ExclusiveEnd)))
 
 -- ---- six words, and seven
 

@@ -7,12 +7,13 @@ use Rattle.key_order.specs.Boundary.{compareBoundaries}
 use Rattle.query_item.specs.declared.BoundaryKind.{BoundaryKind}
 use Rattle.query_item.specs.declared.ItemWords.{ItemWords}
 use Rattle.query_item.specs.declared.MaybeItem.{MaybeItem}
-use Rattle.item_ask.specs.declared.Direction.{Direction}
-use Rattle.item_ask.specs.declared.Direction.the-variants.{LeftOf, RightOf}
 use Rattle.query_item.specs.Boundaries.{boundary, invertKind}
+use Rattle.range_borrowed.specs.declared.Direction.{Direction}
+use Rattle.range_borrowed.specs.declared.Direction.the-variants.{LeftOf, RightOf}
+use Rattle.range_borrowed.specs.Kinds.{kindNumbered}
 use Rattle.item_check.specs.Checks.{Answer, answered, refused, Verdict, accepted, andThen}
 use Rattle.item_ask.specs.Calls.{toQueryItemAnswer}
-use Rattle.fernsponge.specs.Answers.{isKind, kindNumbered, setOfWords}
+use Rattle.fernsponge.specs.Answers.{isKind, setOfWords}
 
 -- a number that is no kind is refused with 1, 0 and 0, as an unknown code is
 

@@ -5,8 +5,8 @@ ghost use Rattle.insert.specs.Answers.{insertAnswer, insertWords};
 ghost use Rattle.fernsponge.specs.Answers.{returned, left, itself};
 use crate::numbers::refusal_number;
 use insert::Inserted;
-use query_item::item::ITEM_SIZE;
-use query_item::item::item_at;
+use item_words::ITEM_SIZE;
+use item_words::item_at;
 
 // Inserts an item into the list of the first count items of words, and tells the new count.
 #[no_mangle]

@@ -4,23 +4,21 @@
 ghost use mathlib.Core.Path.{_≡_};
 ghost use Rattle.query_item.specs.Items.{itemAt};
 ghost use Rattle.item_check.specs.Checks.{checkVerdict};
+ghost use Rattle.range_borrowed.specs.Kinds.{kindNumber};
 ghost use Rattle.item_ask.specs.Calls.{itemAnswerOf, toRangeSetAnswer, containmentAnswer, directionAnswer};
-ghost use Rattle.fernsponge.specs.Answers.{orderNumber, boolNumber, kindNumber, setNumbers, maybeNumbers, containmentNumbers, returned, left};
+ghost use Rattle.fernsponge.specs.Answers.{orderNumber, boolNumber, setNumbers, maybeNumbers, containmentNumbers, returned, left};
 ghost use Rattle.fernsponge.specs.Calls.{compareAnswer, invertAnswer, betweenAnswer, directionOfFlag};
 use crate::numbers::MALFORMED;
 use crate::numbers::MAYBE_SIZE;
 use crate::numbers::bool_number;
 use crate::numbers::containment_numbers;
 use crate::numbers::is_kind;
-use crate::numbers::kind_number;
-use crate::numbers::kind_numbered;
 use crate::numbers::maybe_numbers;
 use crate::numbers::order_number;
 use crate::numbers::refusal_number;
 use crate::numbers::set_numbers;
 use crate::numbers::set_of_words;
 use item_ask::Containment;
-use item_ask::Direction;
 use item_ask::InDirection;
 use item_ask::ItemAnswer;
 use item_ask::RangeAnswer;
@@ -30,11 +28,14 @@ use item_ask::to_query_item;
 use item_ask::to_range_set;
 use item_check::Checked;
 use item_check::check_list;
+use item_words::ITEM_SIZE;
+use item_words::item_at;
 use query_item::MaybeItem;
 use query_item::boundary::compare_boundaries;
 use query_item::boundary::invert;
-use query_item::item::ITEM_SIZE;
-use query_item::item::item_at;
+use range_borrowed::Direction;
+use range_borrowed::kind_number;
+use range_borrowed::kind_numbered;
 
 // How a boundary of one kind at the key a stands to one of another at b: 0 less, 1 equal, 2 greater.
 #[no_mangle]

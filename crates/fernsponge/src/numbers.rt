@@ -3,9 +3,10 @@ ghost use mathlib.Core.Path.{_≡_};
 ghost use mathlib.Core.List.{_∷_};
 ghost use Rattle.query_item.specs.Items.{flat};
 ghost use Rattle.query_item.specs.Boundaries.{withKey};
-ghost use Rattle.fernsponge.specs.Answers.{orderNumber, boolNumber, kindNumber, isKind, kindNumbered, refusalNumber, setNumbers, setOfWords, maybeNumbers, containmentNumbers};
-use item_ask::KeyContainmentResult;
+ghost use Rattle.fernsponge.specs.Answers.{orderNumber, boolNumber, isKind, refusalNumber, setNumbers, setOfWords, maybeNumbers, containmentNumbers};
 use item_check::Refusal;
+use item_words::ITEM_SIZE;
+use item_words::words_of;
 use key_order::Ordering;
 use query_item::BoundaryKind;
 use query_item::ItemWords;
@@ -16,8 +17,9 @@ use query_item::RangeSetItem;
 use query_item::boundary::key_of;
 use query_item::boundary::kind_of;
 use query_item::boundary::least;
-use query_item::item::ITEM_SIZE;
-use query_item::item::words_of;
+use range_borrowed::KeyContainmentResult;
+use range_borrowed::kind_number;
+use range_borrowed::kind_numbered;
 
 // Input that is malformed: number 1, side 0, index 0.
 pub(crate) const MALFORMED: u64 = 1;
@@ -44,34 +46,10 @@ pub(crate) fn bool_number(b: bool) -> u32
     if b { 1 } else { 0 }
 }
 
-pub(crate) fn kind_number(kind: BoundaryKind) -> u32
-    ensures { λ r. ⌜ r ≡ kindNumber kind ⌝ }
-{
-    match kind {
-        BoundaryKind::UnboundedStart => 0,
-        BoundaryKind::UnboundedEnd => 1,
-        BoundaryKind::Inclusive => 2,
-        BoundaryKind::ExclusiveStart => 3,
-        BoundaryKind::ExclusiveEnd => 4,
-    }
-}
-
 pub(crate) fn is_kind(n: u32) -> bool
     ensures { λ r. ⌜ r ≡ isKind n ⌝ }
 {
     n <= 4
-}
-
-pub(crate) fn kind_numbered(n: u32) -> BoundaryKind
-    ensures { λ r. ⌜ r ≡ kindNumbered n ⌝ }
-{
-    match n {
-        0 => BoundaryKind::UnboundedStart,
-        1 => BoundaryKind::UnboundedEnd,
-        2 => BoundaryKind::Inclusive,
-        3 => BoundaryKind::ExclusiveStart,
-        _ => BoundaryKind::ExclusiveEnd,
-    }
 }
 
 pub(crate) fn refusal_number(refusal: Refusal) -> u64

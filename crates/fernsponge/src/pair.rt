@@ -7,8 +7,8 @@ use crate::numbers::maybe_numbers;
 use crate::numbers::refusal_number;
 use intersect::PairAnswer;
 use intersect::pair::intersect_items;
-use query_item::item::ITEM_SIZE;
-use query_item::item::item_at;
+use item_words::ITEM_SIZE;
+use item_words::item_at;
 
 // What two items share, what is left over of ours on the left and on the right, and so of theirs: five items, each of which may be missing.
 #[no_mangle]

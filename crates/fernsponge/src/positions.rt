@@ -1,9 +1,13 @@
 // Module 6. Intervals are pairs of words, and a report is three parts: the total, how many examples it has, and the places for them.
 ghost use mathlib.Core.Path.{_≡_};
+ghost use mathlib.Core.List.{[]};
 ghost use lib.ListN.{length};
+ghost use Rattle.item_check.specs.Checks.{answered};
 ghost use Rattle.position_intervals.specs.Asked.{containsAnswer, lenAnswer, isEmptyAnswer, yesOrNoOf};
-ghost use Rattle.position_query.specs.Keys.{positionAnswer};
-ghost use Rattle.position_mismatch.specs.Reports.{comparedOf, missingAnswer, extraAnswer};
+ghost use Rattle.position_key.specs.Keys.{positionAnswer};
+ghost use Rattle.position_mismatch.specs.Reports.{comparedOf, missingAnswer, extraAnswer, spansAnswer};
+ghost use Rattle.position_mismatch.specs.Reports as reports;
+ghost use Rattle.position_spans.specs.Spans.{spanPairs};
 ghost use Rattle.position_describe.specs.Text.{describeAnswer, describedIn};
 ghost use Rattle.fernsponge.specs.Answers.{boolNumber, returned, left, itself};
 ghost use Rattle.fernsponge.specs.Positions.{reportOf, GivesReport, GivesPairs};
@@ -15,10 +19,11 @@ use position_intervals::Length;
 use position_intervals::LogPosition;
 use position_intervals::RowCount;
 use position_intervals::YesOrNo;
+use position_key::PositionKey;
 use position_mismatch::Compared;
 use position_mismatch::PositionMismatch;
 use position_query::Built;
-use position_query::PositionKey;
+use position_spans::Span;
 
 // A key that is no position: number 7, side 0, index 0.
 const NO_POSITION: u64 = 7;
@@ -29,7 +34,7 @@ pub extern "C" fn fernsponge_be_u64(key: &[u8], position: &mut u64) -> u64
     ensures { λ r. ⌜ r ≡ returned (positionAnswer (now (key .entry))) ⌝ }
     ensures { λ _. ⌜ now (position .exit) ≡ left itself (positionAnswer (now (key .entry))) (now (position .entry)) ⌝ }
 {
-    let PositionKey::At(p) = position_query::key::be_u64(key) else {
+    let PositionKey::At(p) = position_key::be_u64(key) else {
         return NO_POSITION;
     };
     *position = p.0;
@@ -105,6 +110,23 @@ fn give_yes(answer: YesOrNo, yes: &mut u32) -> u64
     }
 }
 
+// The report that nothing is off. It refuses nothing.
+#[no_mangle]
+pub extern "C" fn fernsponge_empty_report(
+    total: &mut u64,
+    count: &mut u64,
+    examples: &mut [u64; PositionMismatch::MAX_REPORTED_POSITIONS],
+) -> u64
+    ensures { λ r. ⌜ GivesReport (answered (reports.reportOf [])) (now (total .entry)) (now (count .entry)) (now (examples .entry)) r (now (total .exit)) (now (count .exit)) (now (examples .exit)) ⌝ }
+{
+    let report = PositionMismatch::empty();
+    let compared = Compared {
+        checked: Checked::Accepted,
+        report,
+    };
+    give_report(compared, total, count, examples)
+}
+
 // Which covered positions are not proved.
 #[no_mangle]
 pub extern "C" fn fernsponge_missing_from(
@@ -118,6 +140,25 @@ pub extern "C" fn fernsponge_missing_from(
 {
     give_report(
         position_mismatch::compare::missing_from(intervals, proved),
+        total,
+        count,
+        examples,
+    )
+}
+
+// Which covered positions no span contains. A span is two words, its start and its end.
+#[no_mangle]
+pub extern "C" fn fernsponge_missing_from_spans(
+    intervals: &[u64],
+    spans: &[Span],
+    total: &mut u64,
+    count: &mut u64,
+    examples: &mut [u64; PositionMismatch::MAX_REPORTED_POSITIONS],
+) -> u64
+    ensures { λ r. ⌜ GivesReport (spansAnswer (now (intervals .entry)) (spanPairs (now (spans .entry)))) (now (total .entry)) (now (count .entry)) (now (examples .entry)) r (now (total .exit)) (now (count .exit)) (now (examples .exit)) ⌝ }
+{
+    give_report(
+        position_spans::missing_from_spans(intervals, spans),
         total,
         count,
         examples,
