@@ -1,0 +1,189 @@
+/* Fernsponge: ranges of keys and positions of a log. Link libfernsponge.a (`make lib` puts it and this file into target/).
+ *
+ * Every function is proved to meet its contract, as long as the caller passes what the parameters say:
+ * - a lent slice is an address and a length in elements. The address is not null and is aligned for its elements, also where the length is 0;
+ * - numbers of a known count are an address alone;
+ * - what is lent for writing overlaps nothing else that the call is lent, and nothing writes to what is lent while the call runs.
+ *
+ * A function that may refuse returns 0 and writes its answer, or returns a refusal and writes nothing at all. FERNSPONGE_NUMBER,
+ * FERNSPONGE_SIDE and FERNSPONGE_INDEX take a refusal apart:
+ *
+ *    1  malformed: an unknown code, wrapper or kind, words of an absent key that are not 0, a list whose words are no multiple of 6 or that
+ *       has more than 2,048 items, a pool of more than 65,536 bytes, a count beyond its buffer, an odd number of interval words, a report
+ *       with more than 16 examples
+ *    2  a key longer than 255 bytes, or reaching past the pool
+ *    3  an item that is not upright: its start stands above its end
+ *    4  an item out of order: in the algebra each item ends below the start of the next
+ *    5  a wrapped item in a position query
+ *    6  the result needs more room than was lent
+ *    7  a position key that is not 8 bytes
+ *    8  proved positions that do not ascend strictly, spans that are turned round or start below the end of the one before
+ *    9  intervals that are not canonical: nonempty, ascending, each end below the next start
+ *
+ * Side 0 is ours, 1 theirs; position items and intervals are side 0, proved positions, spans and an item to insert side 1. The index is that
+ * of the item, pair or position; the pool, the shape of a list and want of room have index 0.
+ *
+ * Keys stand in one pool of bytes, and an item names its keys by offset and length. An item is six words: code, wrapper, start offset, start
+ * length, end offset, end length; the words of a key that its kind has not are 0. An item that may be missing is seven words: 1 and its six, or
+ * seven times 0.
+ */
+#ifndef FERNSPONGE_H
+#define FERNSPONGE_H
+
+#include <stdbool.h>
+#include <stddef.h>
+#include <stdint.h>
+
+#ifdef __cplusplus
+extern "C" {
+#endif
+
+#define FERNSPONGE_NUMBER(refusal) ((unsigned)((refusal) & 0xff))
+#define FERNSPONGE_SIDE(refusal) ((unsigned)((refusal) >> 8 & 0xff))
+#define FERNSPONGE_INDEX(refusal) ((uint64_t)(refusal) >> 16)
+
+#define FERNSPONGE_ITEM_WORDS 6
+#define FERNSPONGE_MAYBE_WORDS 7
+#define FERNSPONGE_EXAMPLES 16
+
+/* Codes of items: a stands for the start, b for the end. */
+enum fernsponge_code {
+    FERNSPONGE_KEY = 0,                      /* k = a */
+    FERNSPONGE_RANGE = 1,                    /* a <= k < b */
+    FERNSPONGE_RANGE_INCLUSIVE = 2,          /* a <= k <= b */
+    FERNSPONGE_RANGE_FULL = 3,               /* every key */
+    FERNSPONGE_RANGE_FROM = 4,               /* a <= k */
+    FERNSPONGE_RANGE_TO = 5,                 /* k < b */
+    FERNSPONGE_RANGE_TO_INCLUSIVE = 6,       /* k <= b */
+    FERNSPONGE_RANGE_AFTER = 7,              /* a < k */
+    FERNSPONGE_RANGE_AFTER_TO = 8,           /* a < k < b */
+    FERNSPONGE_RANGE_AFTER_TO_INCLUSIVE = 9  /* a < k <= b */
+};
+
+enum fernsponge_wrapper {
+    FERNSPONGE_PLAIN = 0,
+    FERNSPONGE_COUNT = 1,
+    FERNSPONGE_SUM = 2,
+    FERNSPONGE_COUNT_AND_SUM = 3
+};
+
+/* Kinds of boundaries. */
+enum fernsponge_kind {
+    FERNSPONGE_UNBOUNDED_START = 0,
+    FERNSPONGE_UNBOUNDED_END = 1,
+    FERNSPONGE_INCLUSIVE = 2,
+    FERNSPONGE_EXCLUSIVE_START = 3,
+    FERNSPONGE_EXCLUSIVE_END = 4
+};
+
+/* ---- keys: bytes of any length; nothing is refused */
+
+/* How a stands to b: 0 less, 1 equal, 2 greater. */
+uint64_t fernsponge_compare(const uint8_t *a, size_t a_length, const uint8_t *b, size_t b_length);
+
+struct fernsponge_part {
+    const uint8_t *at;
+    size_t length;
+};
+
+/* Sets *part, a slice before too, to the smaller of a and b, and to b on a tie: the lent bytes themselves. */
+void fernsponge_order_items(const uint8_t *a, size_t a_length, const uint8_t *b, size_t b_length, struct fernsponge_part *part);
+
+/* ---- boundaries */
+
+/* How a boundary of a kind at a key stands to another: 0 less, 1 equal, 2 greater. */
+uint64_t fernsponge_compare_boundaries(uint32_t kind_a, const uint8_t *a, size_t a_length, uint32_t kind_b, const uint8_t *b,
+                                       size_t b_length, uint32_t *order);
+
+/* The kind of the inverted boundary, as a start or as an end. */
+uint64_t fernsponge_invert(uint32_t kind, bool is_start, uint32_t *inverted);
+
+/* ---- one item, upright or not */
+
+/* The two boundaries of an item, as six words: kinds of start and end, then offset and length of each key. */
+uint64_t fernsponge_to_range_set(const uint8_t *pool, size_t pool_length, const uint32_t item[FERNSPONGE_ITEM_WORDS],
+                                 uint32_t range[FERNSPONGE_ITEM_WORDS]);
+
+/* The item of two boundaries, which may be missing. */
+uint64_t fernsponge_to_query_item(const uint8_t *pool, size_t pool_length, const uint32_t range[FERNSPONGE_ITEM_WORDS],
+                                  uint32_t item[FERNSPONGE_MAYBE_WORDS]);
+
+/* Two numbers, 1 for yes: the item holds the key; the key sits on an exclusive bound. The key is lent bytes of any length. */
+uint64_t fernsponge_could_contain_key(const uint8_t *pool, size_t pool_length, const uint32_t item[FERNSPONGE_ITEM_WORDS],
+                                      const uint8_t *key, size_t key_length, uint32_t held[2]);
+
+/* 1 where keys that the item holds may stand left of the key, or else right of it. 0 means that none does. */
+uint64_t fernsponge_could_have_items_in_direction(const uint8_t *pool, size_t pool_length, const uint32_t item[FERNSPONGE_ITEM_WORDS],
+                                                  const uint8_t *key, size_t key_length, bool to_left, uint32_t *yes);
+
+/* ---- lists. A list's length is its number of words, six an item */
+
+/* Whether a list can be used in the algebra, as ours or as theirs. */
+uint64_t fernsponge_check_list(const uint8_t *pool, size_t pool_length, const uint32_t *words, size_t words_length, bool theirs);
+
+/* What two items share, and what each keeps left and right of the other; any may be missing. */
+uint64_t fernsponge_intersect_items(const uint8_t *pool, size_t pool_length, const uint32_t ours[FERNSPONGE_ITEM_WORDS],
+                                    const uint32_t theirs[FERNSPONGE_ITEM_WORDS], uint32_t in_both[FERNSPONGE_MAYBE_WORDS],
+                                    uint32_t ours_left[FERNSPONGE_MAYBE_WORDS], uint32_t ours_right[FERNSPONGE_MAYBE_WORDS],
+                                    uint32_t theirs_left[FERNSPONGE_MAYBE_WORDS], uint32_t theirs_right[FERNSPONGE_MAYBE_WORDS]);
+
+/* What two lists share, what only ours holds and what only theirs holds, each at the front of the words lent for it; the words past them stay.
+ * counts has the items of each. As much room as both lists have together is always enough for each. */
+uint64_t fernsponge_intersect_many(const uint8_t *pool, size_t pool_length, const uint32_t *ours, size_t ours_length,
+                                   const uint32_t *theirs, size_t theirs_length, uint32_t *both, size_t both_length, uint32_t *mine,
+                                   size_t mine_length, uint32_t *yours, size_t yours_length, uint64_t counts[3]);
+
+/* Inserts an item into the list of the first count items of words; *after is how many there are then. Freed words up to the old count become 0,
+ * later ones stay. */
+uint64_t fernsponge_insert_item(const uint8_t *pool, size_t pool_length, uint32_t *words, size_t words_length, size_t count,
+                                const uint32_t item[FERNSPONGE_ITEM_WORDS], uint64_t *after);
+
+/* ---- positions. Intervals are pairs of words, start and end, half-open; their length is the number of words */
+
+/* The position of a key of 8 bytes, the first the greatest. */
+uint64_t fernsponge_be_u64(const uint8_t *key, size_t key_length, uint64_t *position);
+
+/* The positions below count that items cover, as canonical pairs at the front of out; *pairs is how many. */
+uint64_t fernsponge_from_query_items(const uint8_t *pool, size_t pool_length, const uint32_t *items, size_t items_length, uint64_t count,
+                                     uint64_t *out, size_t out_length, uint64_t *pairs);
+
+/* 1 where a position is covered. */
+uint64_t fernsponge_contains(const uint64_t *intervals, size_t intervals_length, uint64_t position, uint32_t *yes);
+
+/* How many positions are covered. */
+uint64_t fernsponge_len(const uint64_t *intervals, size_t intervals_length, uint64_t *rows);
+
+/* 1 where none is. */
+uint64_t fernsponge_is_empty(const uint64_t *intervals, size_t intervals_length, uint32_t *yes);
+
+/* A report is its total, how many examples it has, and their places: the smallest positions that are off, then zeros. */
+
+/* The report that nothing is off; it refuses nothing, and returns 0. */
+uint64_t fernsponge_empty_report(uint64_t *total, uint64_t *count, uint64_t examples[FERNSPONGE_EXAMPLES]);
+
+/* Which covered positions are not among the proved ones. */
+uint64_t fernsponge_missing_from(const uint64_t *intervals, size_t intervals_length, const uint64_t *proved, size_t proved_length,
+                                 uint64_t *total, uint64_t *count, uint64_t examples[FERNSPONGE_EXAMPLES]);
+
+struct fernsponge_span {
+    uint64_t start;
+    uint64_t end;
+};
+
+/* Which covered positions lie in no span, from start on, below end. */
+uint64_t fernsponge_missing_from_spans(const uint64_t *intervals, size_t intervals_length, const struct fernsponge_span *spans,
+                                       size_t spans_length, uint64_t *total, uint64_t *count, uint64_t examples[FERNSPONGE_EXAMPLES]);
+
+/* Which proved positions are not covered. */
+uint64_t fernsponge_extra_in(const uint64_t *intervals, size_t intervals_length, const uint64_t *proved, size_t proved_length,
+                             uint64_t *total, uint64_t *count, uint64_t examples[FERNSPONGE_EXAMPLES]);
+
+/* The text of a report, at the front of out; *written is its length, 394 bytes at most, with no 0 at its end. */
+uint64_t fernsponge_describe(uint64_t total, uint64_t count, const uint64_t examples[FERNSPONGE_EXAMPLES], uint8_t *out, size_t out_length,
+                             uint64_t *written);
+
+#ifdef __cplusplus
+}
+#endif
+
+#endif

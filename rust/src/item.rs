@@ -1,0 +1,255 @@
+//! Keys, items, and the pool that they stand in.
+
+use crate::{
+    refusal::{Refusal, Side},
+    words::Words,
+};
+use std::fmt;
+
+/// The most bytes that a pool has.
+const MOST_POOL: usize = 65_536;
+
+/// A key as a part of the pool.
+#[derive(Clone, Copy, Debug, Default, PartialEq, Eq, Hash)]
+pub struct KeyAt {
+    /// Where it begins.
+    pub offset: u32,
+    /// How many bytes it has.
+    pub length: u32,
+}
+
+impl KeyAt {
+    /// Its bytes; what reaches past the pool is not there.
+    pub fn bytes(self, pool: &[u8]) -> &[u8] {
+        let rest = pool.get(self.offset as usize..).unwrap_or_default();
+        rest.get(..self.length as usize).unwrap_or(rest)
+    }
+}
+
+/// A pool that grows a key at a time.
+///
+/// ```
+/// let mut pool = fernsponge::Pool::new();
+/// let key = pool.add(b"DE-FR/05")?;
+/// assert_eq!(key.bytes(pool.bytes()), b"DE-FR/05");
+/// # Ok::<(), fernsponge::Refusal>(())
+/// ```
+#[derive(Clone, Debug, Default)]
+pub struct Pool {
+    bytes: Vec<u8>,
+}
+
+impl Pool {
+    /// A pool without a key.
+    pub fn new() -> Self {
+        Self::default()
+    }
+
+    /// Adds a key. Refused, as the library would refuse it, where the key is longer than 255 bytes (2) or the pool would pass 65,536 (1).
+    pub fn add(&mut self, key: &[u8]) -> Result<KeyAt, Refusal> {
+        let refused = |number| {
+            Err(Refusal {
+                number,
+                side: Side::Ours,
+                index: 0,
+            })
+        };
+        if key.len() > 255 {
+            return refused(2);
+        }
+        if self.bytes.len() + key.len() > MOST_POOL {
+            return refused(1);
+        }
+        let at = KeyAt {
+            offset: self.bytes.len() as u32,
+            length: key.len() as u32,
+        };
+        self.bytes.extend_from_slice(key);
+        Ok(at)
+    }
+
+    /// The bytes, as every call takes them.
+    pub fn bytes(&self) -> &[u8] {
+        &self.bytes
+    }
+}
+
+/// The ten kinds of ranges.
+#[derive(Clone, Copy, Debug, PartialEq, Eq, Hash)]
+pub enum QueryItem {
+    /// The key itself.
+    Key(KeyAt),
+    /// From the first, below the second.
+    Range(KeyAt, KeyAt),
+    /// From the first to the second, both held.
+    RangeInclusive(KeyAt, KeyAt),
+    /// Every key.
+    RangeFull,
+    /// The key and all above it.
+    RangeFrom(KeyAt),
+    /// All below the key.
+    RangeTo(KeyAt),
+    /// The key and all below it.
+    RangeToInclusive(KeyAt),
+    /// All above the key.
+    RangeAfter(KeyAt),
+    /// Above the first, below the second.
+    RangeAfterTo(KeyAt, KeyAt),
+    /// Above the first, up to the second, which is held.
+    RangeAfterToInclusive(KeyAt, KeyAt),
+}
+
+/// What an item asks for besides its range. The algebra reads through it; insertion keeps wrapped items apart.
+#[derive(Clone, Copy, Debug, Default, PartialEq, Eq, Hash)]
+pub enum Wrapper {
+    /// Nothing.
+    #[default]
+    Plain,
+    /// A count.
+    Count,
+    /// A sum.
+    Sum,
+    /// Both.
+    CountSum,
+}
+
+/// An item: its six words as they stand in a list. Lists are slices of items.
+///
+/// ```
+/// use fernsponge::{Item, KeyAt, QueryItem, Wrapper};
+///
+/// let item = Item::new(Wrapper::Count, QueryItem::RangeFrom(KeyAt { offset: 2, length: 1 }));
+/// assert_eq!(item.words(), [4, 1, 2, 1, 0, 0]);
+/// assert_eq!(Item::from_words([4, 1, 2, 1, 0, 0]), item);
+/// ```
+#[derive(Clone, Copy, Debug, Default, PartialEq, Eq, Hash)]
+#[repr(transparent)]
+pub struct Item([u32; 6]);
+
+impl Item {
+    /// The item of a range and a wrapper.
+    pub fn new(wrapper: Wrapper, range: QueryItem) -> Self {
+        let none = KeyAt::default();
+        let (code, a, b) = match range {
+            QueryItem::Key(a) => (0, a, none),
+            QueryItem::Range(a, b) => (1, a, b),
+            QueryItem::RangeInclusive(a, b) => (2, a, b),
+            QueryItem::RangeFull => (3, none, none),
+            QueryItem::RangeFrom(a) => (4, a, none),
+            QueryItem::RangeTo(b) => (5, none, b),
+            QueryItem::RangeToInclusive(b) => (6, none, b),
+            QueryItem::RangeAfter(a) => (7, a, none),
+            QueryItem::RangeAfterTo(a, b) => (8, a, b),
+            QueryItem::RangeAfterToInclusive(a, b) => (9, a, b),
+        };
+        Self([code, wrapper as u32, a.offset, a.length, b.offset, b.length])
+    }
+
+    /// A plain key.
+    pub fn key(key: KeyAt) -> Self {
+        QueryItem::Key(key).into()
+    }
+
+    /// From a key on, below another.
+    pub fn range(from: KeyAt, below: KeyAt) -> Self {
+        QueryItem::Range(from, below).into()
+    }
+
+    /// From a key to another, both held.
+    pub fn range_inclusive(from: KeyAt, to: KeyAt) -> Self {
+        QueryItem::RangeInclusive(from, to).into()
+    }
+
+    /// The item of six words, whatever they are: a call that is given words that make no item refuses them.
+    pub fn from_words(words: Words) -> Self {
+        Self(words)
+    }
+
+    /// Its six words: code, wrapper, start offset, start length, end offset, end length.
+    pub fn words(self) -> Words {
+        self.0
+    }
+
+    /// Its range, if its code is one of the ten.
+    pub fn range_of(self) -> Option<QueryItem> {
+        let [code, _, offset, length, end_offset, end_length] = self.0;
+        let a = KeyAt { offset, length };
+        let b = KeyAt {
+            offset: end_offset,
+            length: end_length,
+        };
+        Some(match code {
+            0 => QueryItem::Key(a),
+            1 => QueryItem::Range(a, b),
+            2 => QueryItem::RangeInclusive(a, b),
+            3 => QueryItem::RangeFull,
+            4 => QueryItem::RangeFrom(a),
+            5 => QueryItem::RangeTo(b),
+            6 => QueryItem::RangeToInclusive(b),
+            7 => QueryItem::RangeAfter(a),
+            8 => QueryItem::RangeAfterTo(a, b),
+            9 => QueryItem::RangeAfterToInclusive(a, b),
+            _ => return None,
+        })
+    }
+
+    /// Its wrapper, if it is one of the four.
+    pub fn wrapper(self) -> Option<Wrapper> {
+        Some(match self.0[1] {
+            0 => Wrapper::Plain,
+            1 => Wrapper::Count,
+            2 => Wrapper::Sum,
+            3 => Wrapper::CountSum,
+            _ => return None,
+        })
+    }
+
+    /// The item as a listing has it: its kind and its keys, in hexadecimal.
+    pub fn shown(self, pool: &[u8]) -> String {
+        Shown { item: self, pool }.to_string()
+    }
+}
+
+impl From<QueryItem> for Item {
+    fn from(range: QueryItem) -> Self {
+        Self::new(Wrapper::Plain, range)
+    }
+}
+
+/// An item beside its pool, to be written as a listing has it.
+#[derive(Clone, Copy, Debug)]
+pub struct Shown<'a> {
+    /// The item.
+    pub item: Item,
+    /// The pool that has its keys.
+    pub pool: &'a [u8],
+}
+
+impl fmt::Display for Shown<'_> {
+    fn fmt(&self, f: &mut fmt::Formatter<'_>) -> fmt::Result {
+        let Some(range) = self.item.range_of() else {
+            return write!(f, "no item: {:?}", self.item.words());
+        };
+        let (name, keys) = match range {
+            QueryItem::Key(a) => ("Key", vec![a]),
+            QueryItem::Range(a, b) => ("Range", vec![a, b]),
+            QueryItem::RangeInclusive(a, b) => ("RangeInclusive", vec![a, b]),
+            QueryItem::RangeFull => ("RangeFull", vec![]),
+            QueryItem::RangeFrom(a) => ("RangeFrom", vec![a]),
+            QueryItem::RangeTo(b) => ("RangeTo", vec![b]),
+            QueryItem::RangeToInclusive(b) => ("RangeToInclusive", vec![b]),
+            QueryItem::RangeAfter(a) => ("RangeAfter", vec![a]),
+            QueryItem::RangeAfterTo(a, b) => ("RangeAfterTo", vec![a, b]),
+            QueryItem::RangeAfterToInclusive(a, b) => ("RangeAfterToInclusive", vec![a, b]),
+        };
+        f.write_str(name)?;
+        for key in keys {
+            f.write_str(" ")?;
+            match key.bytes(self.pool) {
+                [] => f.write_str("-")?,
+                bytes => bytes.iter().try_for_each(|byte| write!(f, "{byte:02X}"))?,
+            }
+        }
+        Ok(())
+    }
+}

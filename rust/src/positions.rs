@@ -1,0 +1,183 @@
+//! Positions of a log: which are covered, and which of them are missing or extra.
+
+use crate::{
+    item::Item,
+    refusal::Refusal,
+    words::{self, Report},
+};
+use std::{fmt, ops::Range};
+
+/// The position that a key names: its 8 bytes, the first the greatest.
+///
+/// ```
+/// assert_eq!(fernsponge::position_of(&[0, 0, 0, 0, 0, 0, 1, 2])?, 258);
+/// assert!(fernsponge::position_of(b"short").is_err());
+/// # Ok::<(), fernsponge::Refusal>(())
+/// ```
+pub fn position_of(key: &[u8]) -> Result<u64, Refusal> {
+    let mut position = 0;
+    Refusal::from_number(words::be_u64(key, &mut position))?;
+    Ok(position)
+}
+
+/// Positions from a start on, below an end, that a proof spans. It may be empty.
+#[derive(Clone, Copy, Debug, Default, PartialEq, Eq, Hash)]
+#[repr(C)]
+pub struct Span {
+    /// The first position.
+    pub start: u64,
+    /// The first position past it.
+    pub end: u64,
+}
+
+/// Covered positions: intervals that are not empty, ascend, and stand apart.
+///
+/// ```
+/// use fernsponge::{PositionIntervals, Span};
+///
+/// let covered = PositionIntervals::from_ranges(&[0..20])?;
+/// assert_eq!(covered.len(), 20);
+/// let missing = covered.missing_from(&[3])?;
+/// assert_eq!(missing.total(), 19);
+/// assert_eq!(missing.examples()[..4], [0, 1, 2, 4]);
+/// assert_eq!(covered.missing_from_spans(&[Span { start: 0, end: 18 }])?.examples(), [18, 19]);
+/// assert_eq!(covered.extra_in(&[7, 20])?.to_string(), "1 positions: [20]");
+/// # Ok::<(), fernsponge::Refusal>(())
+/// ```
+#[derive(Clone, Debug, Default, PartialEq, Eq, Hash)]
+pub struct PositionIntervals {
+    pairs: Vec<u64>,
+}
+
+impl PositionIntervals {
+    /// The positions below `count` that items cover, whose keys are 8 bytes. Items may stand in any order.
+    pub fn from_query_items(pool: &[u8], items: &[Item], count: u64) -> Result<Self, Refusal> {
+        let mut pairs = vec![0; 2 * items.len()];
+        let mut written = 0;
+        Refusal::from_number(words::from_query_items(
+            pool,
+            words::of_items(items),
+            count,
+            &mut pairs,
+            &mut written,
+        ))?;
+        pairs.truncate(2 * written as usize);
+        Ok(Self { pairs })
+    }
+
+    /// Of intervals that are so already; others are refused with 9.
+    pub fn from_ranges(ranges: &[Range<u64>]) -> Result<Self, Refusal> {
+        let pairs: Vec<u64> = ranges.iter().flat_map(|r| [r.start, r.end]).collect();
+        let mut empty = 0;
+        Refusal::from_number(words::is_empty(&pairs, &mut empty))?;
+        Ok(Self { pairs })
+    }
+
+    /// The intervals, in rising order.
+    pub fn iter(&self) -> Ranges<'_> {
+        Ranges { rest: &self.pairs }
+    }
+
+    /// Whether a position is covered.
+    pub fn contains(&self, position: u64) -> bool {
+        let mut yes = 0;
+        words::contains(&self.pairs, position, &mut yes) == 0 && yes == 1
+    }
+
+    /// How many positions are covered.
+    pub fn len(&self) -> u64 {
+        let mut rows = 0;
+        words::len(&self.pairs, &mut rows);
+        rows
+    }
+
+    /// Whether none is.
+    pub fn is_empty(&self) -> bool {
+        self.pairs.is_empty()
+    }
+
+    /// Which covered positions are not among the proved ones, which ascend strictly.
+    pub fn missing_from(&self, proved: &[u64]) -> Result<PositionMismatch, Refusal> {
+        report(|off| words::missing_from(&self.pairs, proved, off))
+    }
+
+    /// Which covered positions lie in none of the spans, each of which starts at or past the end of the one before it.
+    pub fn missing_from_spans(&self, spans: &[Span]) -> Result<PositionMismatch, Refusal> {
+        report(|off| words::missing_from_spans(&self.pairs, words::of_spans(spans), off))
+    }
+
+    /// Which proved positions, which ascend strictly, are not covered.
+    pub fn extra_in(&self, proved: &[u64]) -> Result<PositionMismatch, Refusal> {
+        report(|off| words::extra_in(&self.pairs, proved, off))
+    }
+}
+
+fn report(call: impl FnOnce(&mut Report) -> u64) -> Result<PositionMismatch, Refusal> {
+    let mut off = Report::default();
+    Refusal::from_number(call(&mut off))?;
+    Ok(PositionMismatch { report: off })
+}
+
+impl<'a> IntoIterator for &'a PositionIntervals {
+    type Item = Range<u64>;
+    type IntoIter = Ranges<'a>;
+
+    fn into_iter(self) -> Ranges<'a> {
+        self.iter()
+    }
+}
+
+/// The intervals of a [`PositionIntervals`], in rising order.
+#[derive(Clone, Debug)]
+pub struct Ranges<'a> {
+    rest: &'a [u64],
+}
+
+impl Iterator for Ranges<'_> {
+    type Item = Range<u64>;
+
+    fn next(&mut self) -> Option<Range<u64>> {
+        let (&[start, end], rest) = self.rest.split_first_chunk::<2>()?;
+        self.rest = rest;
+        Some(start..end)
+    }
+}
+
+/// Positions that are off: how many, and the smallest of them, sixteen at most. Its text is the Rust's.
+#[derive(Clone, Debug, Default, PartialEq)]
+pub struct PositionMismatch {
+    report: Report,
+}
+
+impl PositionMismatch {
+    /// The report that nothing is off.
+    pub fn empty() -> Self {
+        let mut report = Report::default();
+        words::empty_report(&mut report);
+        Self { report }
+    }
+
+    /// How many positions are off.
+    pub fn total(&self) -> u64 {
+        self.report.total
+    }
+
+    /// The smallest of them, in rising order.
+    pub fn examples(&self) -> &[u64] {
+        &self.report.examples[..self.report.count as usize]
+    }
+
+    /// Whether none is.
+    pub fn is_empty(&self) -> bool {
+        self.report.total == 0
+    }
+}
+
+impl fmt::Display for PositionMismatch {
+    fn fmt(&self, f: &mut fmt::Formatter<'_>) -> fmt::Result {
+        let mut text = [0; 394];
+        let mut length = 0;
+        words::describe(&self.report, &mut text, &mut length);
+        f.write_str(&String::from_utf8_lossy(&text[..length as usize]))
+    }
+}

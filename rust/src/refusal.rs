@@ -1,0 +1,132 @@
+//! Why a call does not answer.
+
+use std::fmt;
+
+/// Whose input is meant: ours or theirs. Position items and intervals are ours; proved positions, spans and an item to insert are theirs.
+#[derive(Clone, Copy, Debug, PartialEq, Eq, Hash)]
+pub enum Side {
+    /// The first of two lists, or the only input.
+    Ours,
+    /// The second.
+    Theirs,
+}
+
+/// What is wrong, by the number that stands for it.
+#[derive(Clone, Copy, Debug, PartialEq, Eq, Hash)]
+#[non_exhaustive]
+pub enum Reason {
+    /// 1: an unknown code or wrapper, words of an absent key that are not 0, a list of more than 2,048 items, a pool of more than 65,536
+    /// bytes, a count beyond its buffer, an odd number of interval words.
+    Malformed,
+    /// 2: a key longer than 255 bytes, or reaching past the pool.
+    KeyOutside,
+    /// 3: an item whose start stands above its end.
+    NotUpright,
+    /// 4: an item that does not stand wholly after the one before it, or is out of insertion order.
+    OutOfOrder,
+    /// 5: a wrapped item in a position query.
+    Wrapped,
+    /// 6: the result needs more room than was lent.
+    NoRoom,
+    /// 7: a position key that is not 8 bytes.
+    NoPosition,
+    /// 8: proved positions that do not ascend strictly, or spans that are turned round or cross.
+    NotAscending,
+    /// 9: intervals that are not ascending, nonempty and apart.
+    NotCanonical,
+    /// A number that this version does not know.
+    Unknown,
+}
+
+/// A refused call: what is wrong, and where. Nothing that was lent has changed.
+///
+/// ```
+/// use fernsponge::{intersect_many_ordered, Item, Pool, Reason, Side};
+///
+/// let mut pool = Pool::new();
+/// let (low, high) = (pool.add(&[1])?, pool.add(&[5])?);
+/// let refusal = intersect_many_ordered(pool.bytes(), &[Item::range(high, low)], &[]).unwrap_err();
+/// assert_eq!((refusal.reason(), refusal.side, refusal.index), (Reason::NotUpright, Side::Ours, 0));
+/// assert_eq!(refusal.to_string(), "our item 0: its start stands above its end (refusal 3)");
+/// # Ok::<(), fernsponge::Refusal>(())
+/// ```
+#[derive(Clone, Copy, Debug, PartialEq, Eq, Hash)]
+pub struct Refusal {
+    /// The number of the refusal, 1 to 9.
+    pub number: u8,
+    /// Whose input is meant.
+    pub side: Side,
+    /// The index of the item, pair or position that is meant, from 0; the pool, the shape of a list and want of room have 0.
+    pub index: u64,
+}
+
+impl Refusal {
+    /// The refusal that a call of [`words`](crate::words) returned, or none where it returned 0.
+    pub fn from_number(returned: u64) -> Result<(), Refusal> {
+        let side = match returned >> 8 & 0xff {
+            0 => Side::Ours,
+            _ => Side::Theirs,
+        };
+        match returned {
+            0 => Ok(()),
+            _ => Err(Refusal {
+                number: returned as u8,
+                side,
+                index: returned >> 16,
+            }),
+        }
+    }
+
+    /// What is wrong.
+    pub fn reason(&self) -> Reason {
+        match self.number {
+            1 => Reason::Malformed,
+            2 => Reason::KeyOutside,
+            3 => Reason::NotUpright,
+            4 => Reason::OutOfOrder,
+            5 => Reason::Wrapped,
+            6 => Reason::NoRoom,
+            7 => Reason::NoPosition,
+            8 => Reason::NotAscending,
+            9 => Reason::NotCanonical,
+            _ => Reason::Unknown,
+        }
+    }
+}
+
+impl fmt::Display for Refusal {
+    fn fmt(&self, f: &mut fmt::Formatter<'_>) -> fmt::Result {
+        let whose = match self.side {
+            Side::Ours => "our",
+            Side::Theirs => "their",
+        };
+        let (what, why) = match self.reason() {
+            Reason::Malformed => (
+                "item",
+                "malformed: an unknown code or wrapper, a word of an absent key that is not 0, or a list, pool or count beyond its limit",
+            ),
+            Reason::KeyOutside => ("item", "a key of it is longer than 255 bytes or reaches past the pool"),
+            Reason::NotUpright => ("item", "its start stands above its end"),
+            Reason::OutOfOrder => ("item", "it does not stand in order after the items before it"),
+            Reason::Wrapped => ("item", "a wrapped item cannot ask for positions"),
+            Reason::NoRoom => return write!(f, "the result needs more room than was lent (refusal 6)"),
+            Reason::NoPosition => ("item", "a position key has exactly 8 bytes"),
+            Reason::NotAscending => (
+                "position or span",
+                "positions ascend strictly, and a span neither ends before its start nor starts before the end of the one before it",
+            ),
+            Reason::NotCanonical => (
+                "interval",
+                "intervals are not empty, ascend, and stand apart from each other",
+            ),
+            Reason::Unknown => ("input", "refused for a reason that this version does not know"),
+        };
+        write!(
+            f,
+            "{whose} {what} {}: {why} (refusal {})",
+            self.index, self.number
+        )
+    }
+}
+
+impl std::error::Error for Refusal {}

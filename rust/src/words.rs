@@ -1,0 +1,534 @@
+//! The functions that libfernsponge.a exports, each behind a safe one that takes and writes plain numbers: for callers who keep their
+//! items as words. All of the crate's `unsafe` stands here.
+//!
+//! A lent slice is an address and a length, and lent numbers of a known count are an address alone. A call that may refuse returns
+//! number + 256 · side + 65,536 · index ([`Refusal::from_number`](crate::Refusal::from_number) takes it apart), or 0, and writes only
+//! where it returns 0.
+
+use crate::{positions, Item};
+
+/// The six words of an item: code, wrapper, start offset, start length, end offset, end length. Two boundaries are six words too, the kinds
+/// of start and end in place of code and wrapper.
+pub type Words = [u32; 6];
+
+/// An item or none: 1 and its six words, or seven times 0.
+pub type MaybeWords = [u32; 7];
+
+/// A span: its start and its end.
+pub type Span = [u64; 2];
+
+/// The words of items, in place.
+pub fn of_items(items: &[Item]) -> &[u32] {
+    // SAFETY: an Item is its six words (`repr(transparent)`), so that so many items are six times as many words at the same address
+    unsafe { std::slice::from_raw_parts(items.as_ptr().cast(), items.len() * 6) }
+}
+
+/// The words of items lent for writing, in place. Every six words are an item.
+pub fn of_items_mut(items: &mut [Item]) -> &mut [u32] {
+    // SAFETY: as in `of_items`, and the items are lent to no one else meanwhile
+    unsafe { std::slice::from_raw_parts_mut(items.as_mut_ptr().cast(), items.len() * 6) }
+}
+
+/// The two numbers of each span, start and end, in place.
+pub fn of_spans(spans: &[positions::Span]) -> &[Span] {
+    // SAFETY: a span is its two numbers, start first (`repr(C)`), as the array is
+    unsafe { std::slice::from_raw_parts(spans.as_ptr().cast(), spans.len()) }
+}
+
+/// Positions that are off: how many, and the smallest of them in the first places.
+#[derive(Clone, Debug, Default, PartialEq)]
+pub struct Report {
+    /// How many positions are off.
+    pub total: u64,
+    /// How many places of `examples` are used.
+    pub count: u64,
+    /// The smallest positions that are off; unused places are 0.
+    pub examples: [u64; 16],
+}
+
+mod c {
+    use super::{MaybeWords, Span, Words};
+
+    /// A part of a lent slice, as it is handed back.
+    #[repr(C)]
+    pub struct Part {
+        pub at: *const u8,
+        pub length: usize,
+    }
+
+    extern "C" {
+        pub fn fernsponge_compare(
+            a: *const u8,
+            a_length: usize,
+            b: *const u8,
+            b_length: usize,
+        ) -> u64;
+
+        pub fn fernsponge_order_items(
+            a: *const u8,
+            a_length: usize,
+            b: *const u8,
+            b_length: usize,
+            part: *mut Part,
+        );
+
+        pub fn fernsponge_compare_boundaries(
+            left: u32,
+            a: *const u8,
+            a_length: usize,
+            right: u32,
+            b: *const u8,
+            b_length: usize,
+            order: &mut u32,
+        ) -> u64;
+
+        pub fn fernsponge_invert(kind: u32, is_start: bool, inverted: &mut u32) -> u64;
+
+        pub fn fernsponge_to_range_set(
+            pool: *const u8,
+            pool_length: usize,
+            item: &Words,
+            range: &mut Words,
+        ) -> u64;
+
+        pub fn fernsponge_to_query_item(
+            pool: *const u8,
+            pool_length: usize,
+            range: &Words,
+            item: &mut MaybeWords,
+        ) -> u64;
+
+        pub fn fernsponge_could_contain_key(
+            pool: *const u8,
+            pool_length: usize,
+            item: &Words,
+            key: *const u8,
+            key_length: usize,
+            held: &mut [u32; 2],
+        ) -> u64;
+
+        pub fn fernsponge_could_have_items_in_direction(
+            pool: *const u8,
+            pool_length: usize,
+            item: &Words,
+            key: *const u8,
+            key_length: usize,
+            left: bool,
+            yes: &mut u32,
+        ) -> u64;
+
+        pub fn fernsponge_check_list(
+            pool: *const u8,
+            pool_length: usize,
+            words: *const u32,
+            words_length: usize,
+            theirs: bool,
+        ) -> u64;
+
+        pub fn fernsponge_intersect_items(
+            pool: *const u8,
+            pool_length: usize,
+            ours: &Words,
+            theirs: &Words,
+            in_both: &mut MaybeWords,
+            ours_left: &mut MaybeWords,
+            ours_right: &mut MaybeWords,
+            theirs_left: &mut MaybeWords,
+            theirs_right: &mut MaybeWords,
+        ) -> u64;
+
+        pub fn fernsponge_intersect_many(
+            pool: *const u8,
+            pool_length: usize,
+            ours: *const u32,
+            ours_length: usize,
+            theirs: *const u32,
+            theirs_length: usize,
+            both: *mut u32,
+            both_length: usize,
+            mine: *mut u32,
+            mine_length: usize,
+            yours: *mut u32,
+            yours_length: usize,
+            counts: &mut [u64; 3],
+        ) -> u64;
+
+        pub fn fernsponge_insert_item(
+            pool: *const u8,
+            pool_length: usize,
+            words: *mut u32,
+            words_length: usize,
+            count: usize,
+            item: &Words,
+            after: &mut u64,
+        ) -> u64;
+
+        pub fn fernsponge_be_u64(key: *const u8, key_length: usize, position: &mut u64) -> u64;
+
+        pub fn fernsponge_from_query_items(
+            pool: *const u8,
+            pool_length: usize,
+            items: *const u32,
+            items_length: usize,
+            count: u64,
+            out: *mut u64,
+            out_length: usize,
+            pairs: &mut u64,
+        ) -> u64;
+
+        pub fn fernsponge_contains(
+            intervals: *const u64,
+            intervals_length: usize,
+            position: u64,
+            yes: &mut u32,
+        ) -> u64;
+
+        pub fn fernsponge_len(
+            intervals: *const u64,
+            intervals_length: usize,
+            rows: &mut u64,
+        ) -> u64;
+
+        pub fn fernsponge_is_empty(
+            intervals: *const u64,
+            intervals_length: usize,
+            yes: &mut u32,
+        ) -> u64;
+
+        pub fn fernsponge_empty_report(
+            total: &mut u64,
+            count: &mut u64,
+            examples: &mut [u64; 16],
+        ) -> u64;
+
+        pub fn fernsponge_missing_from(
+            intervals: *const u64,
+            intervals_length: usize,
+            proved: *const u64,
+            proved_length: usize,
+            total: &mut u64,
+            count: &mut u64,
+            examples: &mut [u64; 16],
+        ) -> u64;
+
+        pub fn fernsponge_missing_from_spans(
+            intervals: *const u64,
+            intervals_length: usize,
+            spans: *const Span,
+            spans_length: usize,
+            total: &mut u64,
+            count: &mut u64,
+            examples: &mut [u64; 16],
+        ) -> u64;
+
+        pub fn fernsponge_extra_in(
+            intervals: *const u64,
+            intervals_length: usize,
+            proved: *const u64,
+            proved_length: usize,
+            total: &mut u64,
+            count: &mut u64,
+            examples: &mut [u64; 16],
+        ) -> u64;
+
+        pub fn fernsponge_describe(
+            total: u64,
+            count: u64,
+            examples: &[u64; 16],
+            out: *mut u8,
+            out_length: usize,
+            length: &mut u64,
+        ) -> u64;
+    }
+}
+
+/// 0 less, 1 equal, 2 greater.
+pub fn compare(a: &[u8], b: &[u8]) -> u64 {
+    // SAFETY: both slices are lent for reading until the call returns
+    unsafe { c::fernsponge_compare(a.as_ptr(), a.len(), b.as_ptr(), b.len()) }
+}
+
+/// The smaller of two keys, and `b` on a tie: the lent slice itself.
+pub fn order_items<'a>(a: &'a [u8], b: &'a [u8]) -> &'a [u8] {
+    let mut part = c::Part {
+        at: [].as_ptr(),
+        length: 0,
+    };
+    // SAFETY: as in `compare`, and `part` is an empty slice that the call may replace
+    unsafe {
+        c::fernsponge_order_items(a.as_ptr(), a.len(), b.as_ptr(), b.len(), &mut part);
+    }
+    // SAFETY: the call is proved to hand back `a` or `b`
+    unsafe { std::slice::from_raw_parts(part.at, part.length) }
+}
+
+/// Writes 0 less, 1 equal, 2 greater.
+pub fn compare_boundaries(left: u32, a: &[u8], right: u32, b: &[u8], order: &mut u32) -> u64 {
+    // SAFETY: as in `compare`, and `order` is lent for writing, which nothing else overlaps; so in those below
+    unsafe {
+        c::fernsponge_compare_boundaries(
+            left,
+            a.as_ptr(),
+            a.len(),
+            right,
+            b.as_ptr(),
+            b.len(),
+            order,
+        )
+    }
+}
+
+/// Writes the kind.
+pub fn invert(kind: u32, is_start: bool, inverted: &mut u32) -> u64 {
+    // SAFETY: as above
+    unsafe { c::fernsponge_invert(kind, is_start, inverted) }
+}
+
+/// Writes the kinds of start and end, then offset and length of each key.
+pub fn to_range_set(pool: &[u8], item: &Words, range: &mut Words) -> u64 {
+    // SAFETY: as above
+    unsafe { c::fernsponge_to_range_set(pool.as_ptr(), pool.len(), item, range) }
+}
+
+/// Writes the item of two boundaries, which come as six words too.
+pub fn to_query_item(pool: &[u8], range: &Words, item: &mut MaybeWords) -> u64 {
+    // SAFETY: as above
+    unsafe { c::fernsponge_to_query_item(pool.as_ptr(), pool.len(), range, item) }
+}
+
+/// Writes two numbers, 1 for yes: the key is held; it sits on an exclusive bound.
+pub fn could_contain_key(pool: &[u8], item: &Words, key: &[u8], held: &mut [u32; 2]) -> u64 {
+    // SAFETY: as above
+    unsafe {
+        c::fernsponge_could_contain_key(
+            pool.as_ptr(),
+            pool.len(),
+            item,
+            key.as_ptr(),
+            key.len(),
+            held,
+        )
+    }
+}
+
+/// Writes 1 for yes.
+pub fn could_have_items(pool: &[u8], item: &Words, key: &[u8], left: bool, yes: &mut u32) -> u64 {
+    // SAFETY: as above
+    unsafe {
+        c::fernsponge_could_have_items_in_direction(
+            pool.as_ptr(),
+            pool.len(),
+            item,
+            key.as_ptr(),
+            key.len(),
+            left,
+            yes,
+        )
+    }
+}
+
+/// The refusal alone.
+pub fn check_list(pool: &[u8], words: &[u32], theirs: bool) -> u64 {
+    // SAFETY: all are lent for reading until the call returns
+    unsafe {
+        c::fernsponge_check_list(
+            pool.as_ptr(),
+            pool.len(),
+            words.as_ptr(),
+            words.len(),
+            theirs,
+        )
+    }
+}
+
+/// Writes the five parts: the shared one, ours left and right, theirs left and right.
+pub fn intersect_items(
+    pool: &[u8],
+    ours: &Words,
+    theirs: &Words,
+    [in_both, ours_left, ours_right, theirs_left, theirs_right]: &mut [MaybeWords; 5],
+) -> u64 {
+    // SAFETY: as in `compare_boundaries`, of each of the five that are lent for writing
+    unsafe {
+        c::fernsponge_intersect_items(
+            pool.as_ptr(),
+            pool.len(),
+            ours,
+            theirs,
+            in_both,
+            ours_left,
+            ours_right,
+            theirs_left,
+            theirs_right,
+        )
+    }
+}
+
+/// The items of the three lists go to the front of the words lent for each, shared, ours only and theirs only, and their counts to
+/// `counts`.
+pub fn intersect_many(
+    pool: &[u8],
+    ours: &[u32],
+    theirs: &[u32],
+    [both, mine, yours]: [&mut [u32]; 3],
+    counts: &mut [u64; 3],
+) -> u64 {
+    // SAFETY: as in `compare_boundaries`, of each of the four that are lent for writing
+    unsafe {
+        c::fernsponge_intersect_many(
+            pool.as_ptr(),
+            pool.len(),
+            ours.as_ptr(),
+            ours.len(),
+            theirs.as_ptr(),
+            theirs.len(),
+            both.as_mut_ptr(),
+            both.len(),
+            mine.as_mut_ptr(),
+            mine.len(),
+            yours.as_mut_ptr(),
+            yours.len(),
+            counts,
+        )
+    }
+}
+
+/// Inserts an item into the first so many items of the words, and writes how many there are then.
+pub fn insert_item(
+    pool: &[u8],
+    words: &mut [u32],
+    count: usize,
+    item: &Words,
+    after: &mut u64,
+) -> u64 {
+    // SAFETY: as in `compare_boundaries`, of both that are lent for writing
+    unsafe {
+        c::fernsponge_insert_item(
+            pool.as_ptr(),
+            pool.len(),
+            words.as_mut_ptr(),
+            words.len(),
+            count,
+            item,
+            after,
+        )
+    }
+}
+
+/// Writes the position of a key.
+pub fn be_u64(key: &[u8], position: &mut u64) -> u64 {
+    // SAFETY: as in `compare_boundaries`
+    unsafe { c::fernsponge_be_u64(key.as_ptr(), key.len(), position) }
+}
+
+/// Writes the pairs of the covered positions to the front of `out`, and how many there are.
+pub fn from_query_items(
+    pool: &[u8],
+    items: &[u32],
+    count: u64,
+    out: &mut [u64],
+    pairs: &mut u64,
+) -> u64 {
+    // SAFETY: as above, of both that are lent for writing
+    unsafe {
+        c::fernsponge_from_query_items(
+            pool.as_ptr(),
+            pool.len(),
+            items.as_ptr(),
+            items.len(),
+            count,
+            out.as_mut_ptr(),
+            out.len(),
+            pairs,
+        )
+    }
+}
+
+/// Writes 1 for yes.
+pub fn contains(intervals: &[u64], position: u64, yes: &mut u32) -> u64 {
+    // SAFETY: as above
+    unsafe { c::fernsponge_contains(intervals.as_ptr(), intervals.len(), position, yes) }
+}
+
+/// Writes how many positions are covered.
+pub fn len(intervals: &[u64], rows: &mut u64) -> u64 {
+    // SAFETY: as above
+    unsafe { c::fernsponge_len(intervals.as_ptr(), intervals.len(), rows) }
+}
+
+/// Writes 1 for yes.
+pub fn is_empty(intervals: &[u64], yes: &mut u32) -> u64 {
+    // SAFETY: as above
+    unsafe { c::fernsponge_is_empty(intervals.as_ptr(), intervals.len(), yes) }
+}
+
+/// Writes the report that nothing is off.
+pub fn empty_report(report: &mut Report) -> u64 {
+    // SAFETY: as above, of each of the three that are lent for writing
+    unsafe {
+        c::fernsponge_empty_report(&mut report.total, &mut report.count, &mut report.examples)
+    }
+}
+
+/// Writes which covered positions are not proved.
+pub fn missing_from(intervals: &[u64], proved: &[u64], report: &mut Report) -> u64 {
+    // SAFETY: as above
+    unsafe {
+        c::fernsponge_missing_from(
+            intervals.as_ptr(),
+            intervals.len(),
+            proved.as_ptr(),
+            proved.len(),
+            &mut report.total,
+            &mut report.count,
+            &mut report.examples,
+        )
+    }
+}
+
+/// Writes which covered positions lie in no span, each a start and an end.
+pub fn missing_from_spans(intervals: &[u64], spans: &[Span], report: &mut Report) -> u64 {
+    // SAFETY: as above; a span is its two numbers, as in C
+    unsafe {
+        c::fernsponge_missing_from_spans(
+            intervals.as_ptr(),
+            intervals.len(),
+            spans.as_ptr(),
+            spans.len(),
+            &mut report.total,
+            &mut report.count,
+            &mut report.examples,
+        )
+    }
+}
+
+/// Writes which proved positions are not covered.
+pub fn extra_in(intervals: &[u64], proved: &[u64], report: &mut Report) -> u64 {
+    // SAFETY: as above
+    unsafe {
+        c::fernsponge_extra_in(
+            intervals.as_ptr(),
+            intervals.len(),
+            proved.as_ptr(),
+            proved.len(),
+            &mut report.total,
+            &mut report.count,
+            &mut report.examples,
+        )
+    }
+}
+
+/// Writes the text of a report to the front of `out`, and how long it is.
+pub fn describe(report: &Report, out: &mut [u8], length: &mut u64) -> u64 {
+    // SAFETY: as above, of both that are lent for writing
+    unsafe {
+        c::fernsponge_describe(
+            report.total,
+            report.count,
+            &report.examples,
+            out.as_mut_ptr(),
+            out.len(),
+            length,
+        )
+    }
+}

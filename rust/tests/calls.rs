@@ -1,0 +1,229 @@
+//! The typed calls: that each hands its input on and takes its answer apart as it should, and that a refusal changes nothing.
+
+use fernsponge::*;
+
+/// A pool of the bytes 0 to 255, so that the key of one byte b stands at offset b.
+fn pool() -> Vec<u8> {
+    (0..=255).collect()
+}
+
+fn at(b: u8) -> KeyAt {
+    KeyAt {
+        offset: b.into(),
+        length: 1,
+    }
+}
+
+fn shown(items: &[Item]) -> Vec<String> {
+    items.iter().map(|item| item.shown(&pool())).collect()
+}
+
+#[test]
+fn every_kind_there_and_back() {
+    let (a, b) = (at(1), at(5));
+    for range in [
+        QueryItem::Key(a),
+        QueryItem::Range(a, b),
+        QueryItem::RangeInclusive(a, b),
+        QueryItem::RangeFull,
+        QueryItem::RangeFrom(a),
+        QueryItem::RangeTo(b),
+        QueryItem::RangeToInclusive(b),
+        QueryItem::RangeAfter(a),
+        QueryItem::RangeAfterTo(a, b),
+        QueryItem::RangeAfterToInclusive(a, b),
+    ] {
+        let item = Item::from(range);
+        assert_eq!(item.range_of(), Some(range));
+        let set = to_range_set(&pool(), item).unwrap();
+        assert_eq!(to_query_item(&pool(), set), Ok(Some(item)));
+    }
+    for wrapper in [
+        Wrapper::Plain,
+        Wrapper::Count,
+        Wrapper::Sum,
+        Wrapper::CountSum,
+    ] {
+        assert_eq!(
+            Item::new(wrapper, QueryItem::RangeFull).wrapper(),
+            Some(wrapper)
+        );
+    }
+}
+
+#[test]
+fn no_item_of_two_boundaries() {
+    let end = Boundary {
+        kind: BoundaryKind::ExclusiveEnd,
+        key: at(1),
+    };
+    assert_eq!(
+        to_query_item(&pool(), RangeSet { start: end, end }),
+        Ok(None)
+    );
+}
+
+#[test]
+fn boundaries() {
+    use BoundaryKind::*;
+    assert_eq!(Inclusive.invert(true), ExclusiveStart);
+    assert_eq!(Inclusive.invert(false), ExclusiveEnd);
+    assert_eq!(ExclusiveEnd.invert(true), Inclusive);
+    assert_eq!(UnboundedEnd.invert(false), UnboundedEnd);
+    assert!(compare_boundaries(Inclusive, &[5], ExclusiveStart, &[5]).is_lt());
+    assert!(compare_boundaries(UnboundedStart, &[9], Inclusive, &[]).is_lt());
+    assert!(compare_boundaries(Inclusive, &[5], Inclusive, &[5]).is_eq());
+}
+
+#[test]
+fn the_smaller_key_itself() {
+    let (a, b) = (vec![1, 2], vec![1]);
+    assert!(std::ptr::eq(order_items(&a, &b), &b[..]));
+    let tie = vec![1, 2];
+    assert!(std::ptr::eq(order_items(&a, &tie), &tie[..]));
+}
+
+#[test]
+fn directions() {
+    let item = Item::from(QueryItem::RangeTo(at(3)));
+    let asked = |direction| could_have_items_in_direction(&pool(), item, &[5], direction);
+    assert_eq!(asked(Direction::LeftOf), Ok(true));
+    assert_eq!(asked(Direction::RightOf), Ok(false));
+}
+
+#[test]
+fn a_pair_on_both_sides() {
+    let pair = intersect(&pool(), Item::range(at(1), at(5)), Item::key(at(3))).unwrap();
+    assert_eq!(pair.shared, Some(Item::key(at(3))));
+    assert_eq!(pair.ours_left, Some(Item::range(at(1), at(3))));
+    assert_eq!(
+        pair.ours_right,
+        Some(QueryItem::RangeAfterTo(at(3), at(5)).into())
+    );
+    assert_eq!((pair.theirs_left, pair.theirs_right), (None, None));
+}
+
+#[test]
+fn a_refused_call_changes_nothing() {
+    let mark = Item::from_words([7; 6]);
+    let (mut both, mut mine, mut yours) = ([mark; 2], [mark; 1], [mark; 2]);
+    let refused = intersect_many_into(
+        &pool(),
+        &[Item::range(at(1), at(5))],
+        &[Item::key(at(3))],
+        [&mut both, &mut mine, &mut yours],
+    );
+    let refusal = refused.unwrap_err();
+    assert_eq!(refusal.reason(), Reason::NoRoom);
+    assert_eq!(
+        refusal.to_string(),
+        "the result needs more room than was lent (refusal 6)"
+    );
+    assert_eq!((both, mine, yours), ([mark; 2], [mark; 1], [mark; 2]));
+
+    let mut list = vec![Item::key(at(5)), Item::key(at(1))];
+    let refusal = insert(&pool(), &mut list, Item::key(at(3))).unwrap_err();
+    assert_eq!(
+        (refusal.reason(), refusal.side, refusal.index),
+        (Reason::OutOfOrder, Side::Ours, 1)
+    );
+    assert_eq!(list, [Item::key(at(5)), Item::key(at(1))]);
+}
+
+#[test]
+fn spare_items_stay() {
+    let mark = Item::from_words([7; 6]);
+    let (mut both, mut mine, mut yours) = ([mark; 2], [mark; 3], [mark; 1]);
+    let counts = intersect_many_into(
+        &pool(),
+        &[Item::range(at(1), at(5))],
+        &[Item::key(at(3))],
+        [&mut both, &mut mine, &mut yours],
+    );
+    let expected = Counts {
+        shared: 1,
+        ours: 2,
+        theirs: 0,
+    };
+    assert_eq!(counts, Ok(expected));
+    assert_eq!(shown(&mine[..2]), ["Range 01 03", "RangeAfterTo 03 05"]);
+    assert_eq!((both[1], mine[2], yours[0]), (mark, mark, mark));
+}
+
+#[test]
+fn lists_that_are_refused() {
+    let said = |items: &[Item], side| check_list(&pool(), items, side).unwrap_err().to_string();
+    assert_eq!(
+        said(&[Item::key(at(5)), Item::key(at(5))], Side::Theirs),
+        "their item 1: it does not stand in order after the items before it (refusal 4)"
+    );
+    let past = KeyAt {
+        offset: 256,
+        length: 1,
+    };
+    assert_eq!(
+        said(&[Item::key(past)], Side::Ours),
+        "our item 0: a key of it is longer than 255 bytes or reaches past the pool (refusal 2)"
+    );
+    let unknown = Item::from_words([10, 0, 0, 0, 0, 0]);
+    assert_eq!(unknown.range_of(), None);
+    assert!(said(&[unknown], Side::Ours).starts_with("our item 0: malformed"));
+}
+
+#[test]
+fn insertion_by_hand() {
+    let mut lent = [Item::key(at(5)), Item::key(at(6)), Item::from_words([7; 6])];
+    let after = insert_item(&pool(), &mut lent, 2, Item::range_inclusive(at(4), at(6)));
+    assert_eq!(after, Ok(1));
+    assert_eq!(lent[0], Item::range_inclusive(at(4), at(6)));
+    assert_eq!(lent[1], Item::default());
+    assert_eq!(lent[2], Item::from_words([7; 6]));
+}
+
+#[test]
+fn positions() {
+    let mut pool = Pool::new();
+    let mut key = |p: u64| pool.add(&p.to_be_bytes()).unwrap();
+    let items = [
+        Item::range(key(2), key(5)),
+        Item::key(key(5)),
+        Item::range_inclusive(key(5), key(7)),
+    ];
+    let covered = PositionIntervals::from_query_items(pool.bytes(), &items, 100).unwrap();
+    assert_eq!(covered.iter().collect::<Vec<_>>(), [2..8]);
+    assert!(covered.contains(7) && !covered.contains(8));
+    assert!(!covered.is_empty() && PositionIntervals::default().is_empty());
+    let clipped = PositionIntervals::from_query_items(pool.bytes(), &items, 6).unwrap();
+    assert_eq!((&clipped).into_iter().collect::<Vec<_>>(), [2..6]);
+
+    let touching = PositionIntervals::from_ranges(&[0..3, 3..4]).unwrap_err();
+    assert_eq!(
+        (touching.reason(), touching.index),
+        (Reason::NotCanonical, 1)
+    );
+    let repeated = covered.extra_in(&[3, 3]).unwrap_err();
+    assert_eq!(
+        (repeated.reason(), repeated.side, repeated.index),
+        (Reason::NotAscending, Side::Theirs, 1)
+    );
+    let turned = covered.missing_from_spans(&[Span { start: 3, end: 2 }]);
+    assert_eq!(turned.unwrap_err().reason(), Reason::NotAscending);
+    assert!(covered
+        .missing_from_spans(&[Span { start: 0, end: 9 }])
+        .unwrap()
+        .is_empty());
+}
+
+#[test]
+fn nothing_is_off() {
+    let report = PositionMismatch::empty();
+    assert!(report.is_empty() && report.examples().is_empty());
+    assert_eq!(report.to_string(), "0 positions: []");
+}
+
+#[test]
+fn an_extreme_position() {
+    let all =
+        PositionIntervals::from_query_items(&[], &[QueryItem::RangeFull.into()], u64::MAX).unwrap();
+    assert_eq!((all.len(), all.contains(u64::MAX)), (u64::MAX, false));
+}
