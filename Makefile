@@ -1,11 +1,11 @@
 # Where the Rust of dashpay/grovedb stands, read from here.
 GROVEDB_SRC ?= ../shared/docs/src
-RUN ?= long
+RUN ?= long $(CURDIR)/docs/COMPARISON.md
 # What the program is shown on, and how many damaged files it is tried on.
 FILE ?= samples/document.krl
 COUNT ?= 10000
 
-.PHONY: run test compare compare-short record attack attack-short
+.PHONY: run test lib compare compare-short bench record attack attack-short link-short link-c link-rust
 
 # The program krl on a file. What is proved and unchanged is not proved again.
 run: target/krl.log
@@ -22,6 +22,7 @@ test:
 	rt check krl $(shell sed -n 's/^fernsponge: *//p' crates.txt)
 	@$(MAKE) --no-print-directory compare-short
 	@$(MAKE) --no-print-directory attack-short
+	@$(MAKE) --no-print-directory link-short
 	rt ci
 
 # The program on files that are damaged in many ways.
@@ -36,9 +37,15 @@ attack-short:
 	    echo "attack-short: left out, as python3 is not at hand"; \
 	fi
 
-# Our answers held against the Rust's.
-compare:
+# What others link: the static library for this machine's processor, and its header.
+lib:
 	tools/native-lib fernsponge
+	@mkdir -p target/lib target/include
+	@cp target/native/libfernsponge.a target/lib/
+	@cp include/fernsponge.h target/include/
+
+# Our answers held against the Rust's, some five minutes; the table goes to docs/COMPARISON.md.
+compare: lib
 	GROVEDB_SRC="$(GROVEDB_SRC)" cargo run --quiet --release --offline --manifest-path compare/Cargo.toml -- $(RUN)
 
 # The same on a sample, where cargo and the Rust are at hand.
@@ -48,6 +55,32 @@ compare-short:
 	else \
 	    echo "compare-short: left out, as cargo or the Rust's sources (GROVEDB_SRC=$(GROVEDB_SRC)) are not at hand"; \
 	fi
+
+# The library linked, where a C compiler and cargo are at hand: the header, C's example and the document's listing; the Rust crate's own
+# tests, its doc examples and its example program.
+link-short:
+	@if command -v cc >/dev/null; then \
+	    $(MAKE) --no-print-directory link-c; \
+	else \
+	    echo "link-short: C is left out, as cc is not at hand"; \
+	fi
+	@if command -v cargo >/dev/null; then \
+	    $(MAKE) --no-print-directory link-rust; \
+	else \
+	    echo "link-short: Rust is left out, as cargo is not at hand"; \
+	fi
+
+link-c: lib
+	cc -std=c11 -Wall -Wextra -Wpedantic -Werror -Itarget/include c/listing.c target/lib/libfernsponge.a -o target/listing
+	target/listing | diff - crates/krl/stdout
+
+link-rust: lib
+	cargo test --quiet --offline --manifest-path rust/Cargo.toml
+	cargo run --quiet --offline --manifest-path rust/Cargo.toml --example lanes -- samples/ours.lanes samples/theirs.lanes | diff - crates/krl/stdout
+
+# Both sides timed in one run, some five minutes; the tables go to docs/BENCHMARKS.md, and the chart to docs/benchmarks.svg.
+bench: lib
+	GROVEDB_SRC="$(GROVEDB_SRC)" cargo run --quiet --release --offline --manifest-path compare/Cargo.toml --bin bench -- "$(CURDIR)/docs"
 
 # The Rust's answers that the programs vectors_.. replay, made anew.
 record:

@@ -1,6 +1,5 @@
-//! Brings the Rust of dashpay/grovedb into the build, and names the library of ours to link. Nothing of that Rust is kept in
-//! the repository: its files are copied to OUT_DIR, unchanged but for query_item/mod.rs, from which the parts that lean on
-//! bincode and serde are cut.
+//! Brings the Rust of dashpay/grovedb into the build. Nothing of that Rust is kept in the repository: its files are copied to OUT_DIR,
+//! unchanged but for query_item/mod.rs, from which the parts that lean on bincode and serde are cut.
 
 use std::{
     env, fs,
@@ -24,7 +23,7 @@ const CUTS: [(&str, &str); 3] = [
     ),
 ];
 
-/// What main.rs includes: the Rust's modules, at the crate's root, where their own paths look for one another.
+/// What lib.rs includes: the Rust's modules, at the crate's root, where their own paths look for one another.
 const ROOT: &str = "\
 #[allow(dead_code)]
 mod insert;
@@ -35,7 +34,7 @@ mod query_item;
 ";
 
 fn main() {
-    if let Err(text) = bring_rust().and_then(|()| link_ours()) {
+    if let Err(text) = bring_rust() {
         eprintln!("compare: {text}");
         exit(1);
     }
@@ -62,21 +61,6 @@ fn bring_rust() -> Result<(), String> {
     // query_item/mod.rs declares it, and it is not at hand: src/stand_ins.rs has what is asked of it
     write(&out.join("query_item/merge.rs"), "")?;
     write(&out.join("grovedb.rs"), ROOT)
-}
-
-fn link_ours() -> Result<(), String> {
-    let folder = place("FERNSPONGE_LIB", "target/native")?;
-    let library = folder.join("libfernsponge.a");
-    println!("cargo:rerun-if-changed={}", library.display());
-    if !library.is_file() {
-        return Err(format!(
-            "there is no {}: run `tools/native-lib fernsponge` first, or set FERNSPONGE_LIB to the folder that holds the library",
-            library.display()
-        ));
-    }
-    println!("cargo:rustc-link-search=native={}", folder.display());
-    println!("cargo:rustc-link-lib=static=fernsponge");
-    Ok(())
 }
 
 /// The folder that an environment variable names, or else the usual one; both are read from the project's root.

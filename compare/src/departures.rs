@@ -21,9 +21,9 @@ pub struct Departures {
 impl Departures {
     pub fn new() -> Self {
         Self {
-            unconverted: Row::new("D6 ours only, not converted"),
-            passed_on: Row::new("D7 theirs only of one of ours, not converted"),
-            separately: Row::new("D8 theirs only of none or several of ours"),
+            unconverted: Row::again("D6 ours only, not converted"),
+            passed_on: Row::again("D7 theirs only of one of ours, not converted"),
+            separately: Row::again("D8 theirs only of none or several of ours"),
         }
     }
 

@@ -4,8 +4,12 @@ use crate::{
     boundaries::paper::{compare_items, range},
     items::{end_of, has_end, has_start, same, start_of, Words},
     random::Random,
-    BYTES,
+    Size, BYTES,
 };
+
+/// Lengths of keys and of pools at document 01's limits, one below and one above them.
+pub const KEY_LENGTHS: [usize; 5] = [0, 1, 254, 255, 256];
+pub const POOL_LENGTHS: [usize; 3] = [65_535, 65_536, 65_537];
 
 /// A pool of one piece of bytes over and over, a few of them changed, so that parts of it begin alike.
 pub struct Pool {
@@ -120,15 +124,86 @@ pub fn disorder(random: &mut Random, list: &mut [Words]) {
     }
 }
 
-/// Pools, at the limit and below it, with every single byte at its own offset, and ascending keys of two bytes after these.
+/// Pools at the limit with every single byte at its own offset, and ascending keys of two bytes after these.
 pub fn counting_pools() -> [Vec<u8>; 3] {
-    [8_192, 65_536, 65_537].map(|length| {
+    POOL_LENGTHS.map(|length| {
         let byte = |at: u32| match at {
             0..256 => at as u8,
             _ => ((at - 256) / 2).to_be_bytes()[2 + at as usize % 2],
         };
-        (0..length).map(byte).collect()
+        (0..length as u32).map(byte).collect()
     })
+}
+
+/// The key of a counting pool that has this number, and a range from one to another, without the end.
+pub fn counted_key(number: usize) -> Words {
+    [0, 0, counted(number), 2, 0, 0]
+}
+
+pub fn counted_range(from: usize, to: usize) -> Words {
+    [1, 0, counted(from), 2, counted(to), 2]
+}
+
+fn counted(number: usize) -> u32 {
+    256 + 2 * number as u32
+}
+
+/// So many ranges of a counting pool for ours and for theirs, of which each meets the other list's at the same index by half.
+pub fn half_meeting(ours: usize, theirs: usize) -> [Vec<Words>; 2] {
+    let ranges = |count, from| {
+        let range = |at| counted_range(4 * at + from, 4 * at + from + 2);
+        (0..count).map(range).collect()
+    };
+    [ranges(ours, 0), ranges(theirs, 1)]
+}
+
+/// None, one, and counts at the limit as the run has them.
+pub fn counts(size: &Size) -> impl Iterator<Item = usize> {
+    [0, 1].into_iter().chain(size.counts.iter().copied())
+}
+
+/// Pools at the limit whose parts all begin alike, but for the last byte.
+pub fn even_pools() -> [Vec<u8>; 3] {
+    POOL_LENGTHS.map(|length| {
+        let mut pool = vec![0x7F; length];
+        pool[length - 1] = 0xFF;
+        pool
+    })
+}
+
+/// Keys at the limits of length in a pool: at its front, and at its end or, where it says so, one byte past that.
+pub fn limit_keys(pool: &[u8], past: usize) -> Vec<[u32; 2]> {
+    let at = |length: usize| {
+        let ends = (0..=past).map(move |past| pool.len() - length + past);
+        [0].into_iter()
+            .chain(ends)
+            .map(move |offset| [offset as u32, length as u32])
+    };
+    KEY_LENGTHS.into_iter().flat_map(at).collect()
+}
+
+/// Every plain item whose start stands at the front of the pool and whose end at its end, with keys at the limits of length.
+pub fn limit_items(pool: &[u8]) -> Vec<Words> {
+    let of = |present: bool, front: bool| match present {
+        false => vec![[0, 0]],
+        true => KEY_LENGTHS
+            .map(|length| {
+                [
+                    if front { 0 } else { pool.len() - length } as u32,
+                    length as u32,
+                ]
+            })
+            .to_vec(),
+    };
+    let mut items = vec![];
+    for code in 0..10 {
+        for start in of(has_start(code), true) {
+            for end in of(has_end(code), false) {
+                items.push([code, 0, start[0], start[1], end[0], end[1]]);
+            }
+        }
+    }
+    items
 }
 
 /// Items with a fault of every kind, and some with none, in such a pool.
@@ -137,6 +212,10 @@ pub fn bad_items() -> impl Iterator<Item = Words> {
         [0, 0, 5, 1, 0, 0],
         [2, 3, 1, 1, 9, 1],
         [3, 0, 0, 0, 0, 0],
+        [4, 0, 0, 254, 0, 0],
+        // to the end of a pool of 65,535 bytes, and of one of 65,536
+        [0, 0, 65_280, 255, 0, 0],
+        [1, 0, 0, 255, 65_281, 255],
         // 1: an unknown code or wrapper, an absent key that is not 0
         [10, 0, 0, 0, 0, 0],
         [u32::MAX, 0, 5, 1, 0, 0],
@@ -241,6 +320,36 @@ pub fn lists_of<T: Copy>(items: &[T], most: usize, passes: impl Fn(&[T]) -> bool
         from = to;
     }
     lists
+}
+
+/// So many ascending keys of one length, up to 8,192, that all begin alike: zeros, then two other bytes, then zeros. Those with the most
+/// zeros come first. They overlap, so that a pool of 65,536 bytes suffices.
+pub fn alike_keys(length: usize, count: usize) -> (Vec<u8>, Vec<[u32; 2]>) {
+    let pieces = 65_536 / length;
+    let piece = |at: usize| {
+        let mut piece = vec![0; length];
+        piece[length - 2] = 1 + (at / 255) as u8;
+        piece[length - 1] = 1 + (at % 255) as u8;
+        piece
+    };
+    let pool: Vec<u8> = (0..pieces).flat_map(piece).collect();
+    let starts = (0..length - 1).flat_map(|fewer| (0..pieces).map(move |at| at * length + fewer));
+    let whole = starts.filter(|start| start + length <= pool.len());
+    let keys = whole.map(|start| [start as u32, length as u32]);
+    let keys = keys.take(count).collect();
+    (pool, keys)
+}
+
+/// So many ascending keys of one length, up to 8,192, that differ in their first bytes: parts of random bytes, sorted.
+pub fn early_keys(random: &mut Random, length: usize, count: usize) -> (Vec<u8>, Vec<[u32; 2]>) {
+    let pool: Vec<u8> = (0..65_536).map(|_| random.next() as u8).collect();
+    let mut keys: Vec<&[u8]> = pool.windows(length).step_by(7).collect();
+    let at = |key: &[u8]| key.as_ptr() as usize - pool.as_ptr() as usize;
+    keys.sort();
+    keys.dedup();
+    let keys = keys.iter().map(|key| [at(key) as u32, length as u32]);
+    let keys = keys.take(count).collect();
+    (pool, keys)
 }
 
 /// Ascending keys, each at two places of a pool.

@@ -4,8 +4,8 @@
 use crate::{
     hexadecimal,
     inputs::{
-        bad_items, bad_lists, counting_pools, damage, damage_word, disorder, few_keys, lists_of,
-        plain_items, Keys,
+        bad_items, bad_lists, counting_pools, damage, damage_word, disorder, even_pools, few_keys,
+        limit_items, lists_of, plain_items, Keys,
     },
     insertion::{paper, rust, Left},
     items::{item_of, Words},
@@ -25,7 +25,7 @@ struct Rows {
 
 pub fn run(random: &mut Random, size: &Size) -> Vec<Row> {
     let mut rows = Rows {
-        inserted: Row::new("insert_item"),
+        inserted: Row::new("insert_item").differing("D11"),
         merged: Row::new("insert_item, merged"),
         refused: Row::new("insert_item, refused"),
         calls: 0,
@@ -34,7 +34,8 @@ pub fn run(random: &mut Random, size: &Size) -> Vec<Row> {
     rows.all_lists(1, 4);
     rows.any_lists();
     rows.edges();
-    rows.full();
+    rows.full(size);
+    rows.long_keys();
     for at in 0..size.random / 4 {
         let most = match at % 2_500 {
             0 => size.longest,
@@ -102,8 +103,8 @@ impl Rows {
     }
 
     /// Lists at the limit, all of whose items are keys of two bytes, two apart, and items that are refused, replaced, merged or put first,
-    /// between and last.
-    fn full(&mut self) {
+    /// between and last; the buffer is full, or has room for one more, just so or with words to spare, or lacks one word of it.
+    fn full(&mut self, size: &Size) {
         let pool = &counting_pools()[1];
         let at = |key: u32| 256 + 2 * key;
         let key = |key: u32, wrapper: u32| [0, wrapper, at(key), 2, 0, 0];
@@ -121,11 +122,30 @@ impl Rows {
             [3, 0, 0, 0, 0, 0],
             [1, 0, at(5), 2, at(5), 2],
         ];
-        for (turn, item) in (0..).zip(new) {
-            for count in [2_047, 2_048, 2_049] {
+        for (turn, item) in new.into_iter().enumerate() {
+            for count in [0, 1, 2_047, 2_048, 2_049] {
                 let words: Vec<u32> = (0..count).flat_map(|n| key(2 * n + 1, 0)).collect();
-                let lent = Left::new(&words, [0, 6, 5, 13][(turn + count as usize) % 4]);
-                self.hold(pool, &lent, count as usize, item);
+                let count = count as usize;
+                for (at, besides) in [0, 6, 5, 13].into_iter().enumerate() {
+                    // short lists, and those of the whole run, have all; else each has one
+                    if count < 2 || size.more_pairs || at == (turn + count) % 4 {
+                        self.hold(pool, &Left::new(&words, besides), count, item);
+                    }
+                }
+            }
+        }
+    }
+
+    /// Every item with keys at the limits of length into none and into each such item, in pools at the limit.
+    fn long_keys(&mut self) {
+        for pool in &even_pools() {
+            let items = limit_items(pool);
+            for &new in &items {
+                self.hold(pool, &Left::new(&[], 6), 0, new);
+                for old in &items {
+                    self.calls += 1;
+                    self.hold(pool, &Left::new(old, [6, 5, 0][self.calls % 3]), 1, new);
+                }
             }
         }
     }

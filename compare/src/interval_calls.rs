@@ -1,14 +1,14 @@
-//! Module 6: our calls on intervals, proved positions and reports, on all short ones and on random ones, accepted and refused.
+//! Module 6: our calls on intervals, proved positions, spans and reports, on all short ones and on random ones, accepted and refused.
 
 use crate::{
     calls::{Calls, MARK, WIDE_MARK},
-    fernsponge::{self, Report},
+    fernsponge::{self, Report, Span},
     inputs::lists_of,
     position_intervals::PositionIntervals,
     positions::{paper, rust},
     random::Random,
     refusals,
-    table::{Held, Row},
+    table::{Against, Held, Row},
     Size,
 };
 
@@ -25,6 +25,8 @@ struct All {
     len: Calls,
     is_empty: Calls,
     missing: Calls,
+    spans: Calls,
+    spanned: Row,
     extra: Calls,
     describe: Calls,
     calls: usize,
@@ -50,12 +52,15 @@ pub fn run(random: &mut Random, size: &Size) -> Vec<Row> {
         len: Calls::new("len", "len, refused"),
         is_empty: Calls::new("is_empty", "is_empty, refused"),
         missing: Calls::new("missing_from", "missing_from, refused"),
+        spans: Calls::new("missing_from_spans", "missing_from_spans, refused"),
+        spanned: Row::again("missing_from_spans: as missing_from gives"),
         extra: Calls::new("extra_in", "extra_in, refused"),
         describe: Calls::new("describe", "describe, refused"),
         calls: 0,
     };
     all.short();
     all.refused();
+    all.limits();
     all.reports(random);
     for at in 0..size.random / 8 {
         let most = match at < 4 * size.long_lists {
@@ -69,39 +74,91 @@ pub fn run(random: &mut Random, size: &Size) -> Vec<Row> {
         all.len,
         all.is_empty,
         all.missing,
+        all.spans,
         all.extra,
         all.describe,
     ];
-    calls.into_iter().flat_map(Calls::rows).collect()
+    let mut rows: Vec<Row> = calls.into_iter().flat_map(Calls::rows).collect();
+    rows.push(all.spanned);
+    rows.push(empty_report());
+    rows
+}
+
+/// Document 01's constructor, which the Rust has not.
+fn empty_report() -> Row {
+    let mut row = Row::new("empty_report");
+    let mut report = marked();
+    let returned = fernsponge::empty_report(&mut report);
+    row.hold(
+        || "a marked report".into(),
+        Against::paper((returned, report), (0, Report::default())),
+    );
+    row
 }
 
 impl All {
-    /// All canonical intervals whose ends are points, each with all sets of proved points.
+    /// All canonical intervals whose ends are points, each with all sets of proved points and with all accepted lists of two spans between
+    /// points, empty and touching ones too.
     fn short(&mut self) {
         let sets: Vec<Vec<u64>> = (0..1 << POINTS.len()).map(chosen).collect();
+        let lists = lists_of(&spans_between(&POINTS), 2, |spans| {
+            refusals::spans(&[], spans).is_ok()
+        });
         for words in sets.iter().filter(|set| set.len() % 2 == 0) {
             let intervals = Intervals::new(words.clone());
             self.asked(&intervals, &POINTS);
             for proved in &sets {
                 self.compared(&intervals, proved);
             }
+            for spans in &lists {
+                self.spanned(&intervals, spans);
+            }
         }
     }
 
-    /// All lists of four words, beside all lists of three positions: odd ones, empty, touching and crossing pairs, repeated and descending
-    /// positions.
+    /// All lists of four words, beside all lists of three positions and of two spans: odd ones, empty, touching and crossing pairs, repeated
+    /// and descending positions, crossing and descending spans.
     fn refused(&mut self) {
         let positions = lists_of(&[0, 1, LAST], 3, |_| true);
+        let lists = lists_of(&spans_between(&[0, 1, LAST]), 2, |_| true);
         for words in lists_of(&[0, 1, 2, LAST], 4, |_| true) {
             let intervals = Intervals::new(words);
             self.asked(&intervals, &[1]);
             for proved in &positions {
                 self.compared(&intervals, proved);
             }
+            for spans in &lists {
+                self.spanned(&intervals, spans);
+            }
         }
         // the first that breaks a rule decides
         for words in lists_of(&[[0, 1], [1, 2], [3, 4], [5, 5], [6, 9]], 4, |_| true) {
             self.asked(&Intervals::new(words.concat()), &[3]);
+            self.spanned(&Intervals::new(vec![0, 4, 6, 8]), &words);
+        }
+        for spans in lists_of(&[[0, 1], [1, 0], [1, 5], [5, 5], [4, 6], [7, 9]], 4, |_| {
+            true
+        }) {
+            self.spanned(&Intervals::new(vec![0, 2, 3, 9]), &spans);
+        }
+    }
+
+    /// None, one, and pairs and positions at the limit of a list's items, which intervals and positions do not have, up to u64::MAX: every
+    /// interval of two positions, of which all are proved, or every second one, or the one after it, or positions between them alone.
+    fn limits(&mut self) {
+        for count in [0, 1, 2_047, 2_048, 2_049] {
+            for base in [0, LAST - 4 * count] {
+                let pairs = (0..count).flat_map(|at| [base + 4 * at, base + 4 * at + 2]);
+                let intervals = Intervals::new(pairs.collect());
+                self.asked(&intervals, &[0, base, base + 4 * count, LAST - 1, LAST]);
+                for places in [&[0, 1][..], &[0], &[1, 2], &[3, 4], &[0, 1, 2, 3]] {
+                    let at = |at| places.iter().map(move |place| base + 4 * at + place);
+                    let mut proved: Vec<u64> = (0..count).flat_map(at).collect();
+                    self.compared(&intervals, &proved);
+                    proved.push(LAST);
+                    self.compared(&intervals, &proved);
+                }
+            }
         }
     }
 
@@ -124,7 +181,7 @@ impl All {
         }
     }
 
-    /// Intervals of so many pairs at most, and about as many positions in and near them; some damaged.
+    /// Intervals of so many pairs at most, and about as many positions and spans in and near them; some damaged.
     fn random(&mut self, random: &mut Random, most: usize) {
         let width = random.one_of(&[3, 8, 100]) * most as u64;
         let base = random.one_of(&[0, 7, LAST / 2, LAST - width]);
@@ -141,6 +198,11 @@ impl All {
             words.pop();
         }
         let mut proved = some(2 * most);
+        // spans between neighbours; some points stand there twice
+        let mut ends = some(2 * most);
+        let again: Vec<u64> = ends.iter().copied().step_by(1 + most / 4).collect();
+        ends.extend(again);
+        ends.sort();
         if random.below(2) == 0 {
             // runs of proved positions
             let run = 1 + random.below(most) as u64;
@@ -148,7 +210,7 @@ impl All {
             proved.sort();
             proved.dedup();
         }
-        for list in [&mut words, &mut proved] {
+        for list in [&mut words, &mut proved, &mut ends] {
             if !list.is_empty() && random.below(8) == 0 {
                 let (x, y) = (random.below(list.len()), random.below(list.len()));
                 match random.below(3) {
@@ -166,6 +228,8 @@ impl All {
         let intervals = Intervals::new(words);
         self.asked(&intervals, &asked);
         self.compared(&intervals, &proved);
+        let spans: Vec<Span> = ends.chunks_exact(2).map(|at| [at[0], at[1]]).collect();
+        self.spanned(&intervals, &spans);
     }
 
     fn asked(&mut self, intervals: &Intervals, positions: &[u64]) {
@@ -247,6 +311,36 @@ impl All {
         }
     }
 
+    fn spanned(&mut self, intervals: &Intervals, spans: &[Span]) {
+        let words = &intervals.words[..];
+        let accepted = refusals::spans(words, spans);
+        let input = || format!("{words:?} and {spans:?}");
+        self.spans.hold(
+            input,
+            marked(),
+            |report| fernsponge::missing_from_spans(words, spans, report),
+            accepted.map(|()| paper::missing_from_spans(words, spans)),
+            |report| Held {
+                ours: Some(report.clone()),
+                other: (intervals.rust.as_ref()).map(|rust| rust::missing_from_spans(rust, spans)),
+            },
+        );
+        let width = |[start, end]: &Span| end.saturating_sub(*start);
+        let few = spans.iter().map(width).fold(0, u64::saturating_add) < 1_000;
+        if accepted.is_ok() && few {
+            let proved: Vec<u64> = spans.iter().flat_map(|[start, end]| *start..*end).collect();
+            let [mut ours, mut other] = [marked(), marked()];
+            let returned = [
+                fernsponge::missing_from_spans(words, spans, &mut ours),
+                fernsponge::missing_from(words, &proved, &mut other),
+            ];
+            self.spanned.hold(
+                input,
+                Against::paper((returned[0], ours), (returned[1], other)),
+            );
+        }
+    }
+
     /// A text with room for the longest, with just enough, with one byte more or fewer, and with none at all.
     fn describe(&mut self, report: &Report) {
         let length = match report.count {
@@ -273,6 +367,17 @@ impl All {
 fn chosen(bits: u32) -> Vec<u64> {
     let set = |at: &usize| bits >> at & 1 == 1;
     (0..POINTS.len()).filter(set).map(|at| POINTS[at]).collect()
+}
+
+/// Every pair of points.
+fn spans_between(points: &[u64]) -> Vec<Span> {
+    let pairs = |start: &u64| {
+        points
+            .iter()
+            .map(|end| [*start, *end])
+            .collect::<Vec<Span>>()
+    };
+    points.iter().flat_map(pairs).collect()
 }
 
 /// The text that is told to be at the front: none where there is no room for so much.

@@ -4,7 +4,7 @@ use crate::{
     boundaries::{all_boundaries, boundaries_of, paper, rust, Boundary},
     calls::{place, Calls, MARK},
     fernsponge, hexadecimal,
-    inputs::{damage_word, Pool},
+    inputs::{damage_word, even_pools, limit_keys, plain_items, Pool, KEY_LENGTHS},
     items::{all_items, item_of, keys, maybe_words, read, Words},
     keys_of, order_number,
     query_item::QueryItem,
@@ -47,6 +47,7 @@ pub fn run(random: &mut Random, size: &Size) -> Vec<Row> {
         all.short_pairs(&keys_of(&[0x00, 0xFF], 2));
     }
     all.edges();
+    all.limits(size);
     for _ in 0..size.random {
         all.random(random);
     }
@@ -141,6 +142,36 @@ impl All {
                                 self.contain(pool, words, key);
                                 self.direction(pool, words, key, wrapper == 0);
                             }
+                        }
+                    }
+                }
+            }
+        }
+    }
+
+    /// Keys at the limits of length, at the front and at the end of pools at the limit and past it, asked for such keys too.
+    fn limits(&mut self, size: &Size) {
+        let past = usize::from(size.more_pairs);
+        for pool in &even_pools() {
+            let keys = limit_keys(pool, past);
+            for item in plain_items(&keys) {
+                self.range_set(pool, item);
+                for length in KEY_LENGTHS {
+                    for asked in [&pool[..length], &pool[pool.len() - length..]] {
+                        self.contain(pool, item, asked);
+                        self.direction(pool, item, asked, true);
+                        self.direction(pool, item, asked, false);
+                    }
+                }
+            }
+            for a in &keys {
+                for b in &keys {
+                    for kind in 0..25 {
+                        let (x, y) = (kind / 5, kind % 5);
+                        let set = [x, y, a[0], a[1], b[0], b[1]];
+                        self.query_item(pool, set);
+                        if let Some([x, y]) = boundaries_of(set, pool) {
+                            self.compare(x, y);
                         }
                     }
                 }

@@ -8,8 +8,7 @@ use crate::{
     BYTES,
 };
 
-/// Code, wrapper, start offset, start length, end offset, end length.
-pub type Words = [u32; 6];
+pub use crate::fernsponge::Words;
 
 /// The item that the words name in the pool, if document 01 has one for them.
 pub fn item_of(words: Words, pool: &[u8]) -> Option<QueryItem> {
@@ -170,7 +169,7 @@ pub fn list_holds(list: &[u32], pool: &[u8], k: &[u8]) -> bool {
 /// Checks the translation: there and back the words are the same, and the Rust finds the keys in the item that document 01's
 /// table finds.
 pub fn run() -> Vec<Row> {
-    let mut row = Row::new("items as words");
+    let mut row = Row::again("items as words");
     let keys = keys_of(&BYTES, 2);
     for (words, pool) in all_items(&keys) {
         let table = || {

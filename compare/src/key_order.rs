@@ -1,7 +1,9 @@
 //! Module 1: `compare` and `order_items`, on all pairs of short keys and on random pairs of long ones that begin alike.
 
 use crate::{
-    fernsponge, hexadecimal, keys_of, order_number,
+    fernsponge, hexadecimal,
+    inputs::{KEY_LENGTHS, POOL_LENGTHS},
+    keys_of, order_number,
     query_item::{intersect::RangeSetItem, QueryItem},
     random::Random,
     table::{Against, Row},
@@ -19,11 +21,33 @@ pub fn run(random: &mut Random, random_pairs: u64) -> Vec<Row> {
             hold(&mut rows, a, b);
         }
     }
+    limits(&mut rows);
     for _ in 0..random_pairs {
         let (a, b) = alike(random);
         hold(&mut rows, &a, &b);
     }
     rows.into()
+}
+
+/// Keys as long as a key of an item or as a pool may be, and near that: alike, or with a greater byte in one of them, at the front, in the
+/// middle and at the end.
+fn limits(rows: &mut [Row; 2]) {
+    let lengths = || KEY_LENGTHS.into_iter().chain(POOL_LENGTHS);
+    for a_length in lengths() {
+        for b_length in lengths() {
+            let (a, b) = (vec![0x7F; a_length], vec![0x7F; b_length]);
+            hold(rows, &a, &b);
+            let least = a_length.min(b_length);
+            for at in [0, least / 2, least.saturating_sub(1)] {
+                if at < least {
+                    let mut greater = a.clone();
+                    greater[at] = 0x80;
+                    hold(rows, &greater, &b);
+                    hold(rows, &b, &greater);
+                }
+            }
+        }
+    }
 }
 
 fn hold([compare, order_items]: &mut [Row; 2], a: &[u8], b: &[u8]) {
@@ -41,11 +65,18 @@ fn hold([compare, order_items]: &mut [Row; 2], a: &[u8], b: &[u8]) {
     order_items.hold(
         input,
         Against::both(
-            fernsponge::order_items(a_part, b_part),
+            which(fernsponge::order_items(a_part, b_part), a_part, b_part),
             rust_order_items(a, b),
             if a < b { 0 } else { 1 },
         ),
     );
+}
+
+/// 0 where a part is `a` itself, 1 where it is `b`, 2 where it is neither. The two stand at different addresses.
+fn which(part: &[u8], a: &[u8], b: &[u8]) -> u64 {
+    let at = |key: &[u8]| (key.as_ptr(), key.len());
+    let place = [a, b].iter().position(|key| at(key) == at(part));
+    place.map_or(2, |place| place as u64)
 }
 
 /// A pool that holds the key between other bytes: after it comes what follows in the other key, so that a read past the end

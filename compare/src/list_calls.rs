@@ -2,7 +2,11 @@
 
 use crate::{
     fernsponge, hexadecimal,
-    inputs::{all_lists, damage, disorder, few_keys, Keys},
+    inputs::{
+        all_lists, bad_items, counted_key, counting_pools, damage, disorder, even_pools, few_keys,
+        limit_items, limit_keys, plain_items, Keys, POOL_LENGTHS,
+    },
+    items::Words,
     random::Random,
     refusals,
     table::{Against, Row},
@@ -33,13 +37,42 @@ pub fn run(random: &mut Random, size: &Size) -> Vec<Row> {
         }
         hold(&mut rows, &keys.pool, &words);
     }
-    for length in [65_536, 65_537] {
+    for length in POOL_LENGTHS {
         let pool = vec![0; length];
         for list in lists.iter().take(1_000) {
             hold(&mut rows, &pool, &list.concat());
         }
     }
+    limits(&mut rows);
     rows.into()
+}
+
+/// None, one, and items at the limit, in pools at the limit: accepted, or with a fault in the last item or in the shape. And single items with
+/// keys at the limits.
+fn limits(rows: &mut [Row; 2]) {
+    for pool in &counting_pools() {
+        for count in [0, 1, 2_047, 2_048, 2_049] {
+            let list: Vec<Words> = (0..count).map(counted_key).collect();
+            let words = list.concat();
+            hold(rows, pool, &words);
+            hold(rows, pool, &[&words[..], &[0]].concat());
+            hold(rows, pool, &words[..words.len().saturating_sub(1)]);
+            for last in bad_items().chain([counted_key(count.saturating_sub(2))]) {
+                let mut list = list.clone();
+                list.pop();
+                list.push(last);
+                hold(rows, pool, &list.concat());
+            }
+        }
+    }
+    for pool in &even_pools() {
+        for item in limit_items(pool) {
+            hold(rows, pool, &item);
+        }
+        for item in plain_items(&limit_keys(pool, 1)) {
+            hold(rows, pool, &item);
+        }
+    }
 }
 
 fn hold(rows: &mut [Row; 2], pool: &[u8], words: &[u32]) {

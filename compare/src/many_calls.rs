@@ -5,13 +5,16 @@ use crate::{
     algebra::{paper, rust},
     departures::Departures,
     fernsponge, hexadecimal,
-    inputs::{all_lists, few_keys, Keys},
-    items::list_holds,
+    inputs::{
+        alike_keys, all_lists, counting_pools, counts, even_pools, few_keys, half_meeting,
+        limit_items, Keys,
+    },
+    items::{list_holds, Words},
     keys_of,
     many::{self, items, In, Left, List},
     query_item::QueryItem,
     random::Random,
-    refusals,
+    refusals::{self, MOST_ITEMS},
     table::{Against, Held, Row},
     Size,
 };
@@ -35,11 +38,11 @@ pub fn run(random: &mut Random, size: &Size) -> Vec<Row> {
     let mut rows = Rows {
         lists: [
             Row::new("intersect_many: shared"),
-            Row::new("intersect_many: ours only"),
-            Row::new("intersect_many: theirs only"),
+            Row::again("intersect_many: ours only"),
+            Row::again("intersect_many: theirs only"),
         ],
         no_room: Row::new("intersect_many, no room"),
-        keys: Row::new("intersect_many: keys held, by the table"),
+        keys: Row::again("intersect_many: keys held, by the table"),
         departures: Departures::new(),
         calls: 0,
     };
@@ -60,6 +63,8 @@ pub fn run(random: &mut Random, size: &Size) -> Vec<Row> {
         rows.both_ways(&x, &y, &here);
     }
     rows.extremes(size.longest as u32);
+    rows.limits(size);
+    rows.long_keys(size);
     let mut all: Vec<Row> = rows.lists.into();
     all.extend([rows.no_room, rows.keys]);
     all.extend(rows.departures.rows());
@@ -98,6 +103,60 @@ impl Rows {
         };
         for [x, y] in [[ranges(0), ranges(1)], [vec![[3, 0, 0, 0, 0, 0]], keys]] {
             self.both_ways(&List::new(x, &here), &List::new(y, &here), &here);
+        }
+    }
+
+    /// None, one, and as many items as a list may have, and one fewer, against each of these.
+    fn limits(&mut self, size: &Size) {
+        let [_, pool, _] = counting_pools();
+        let here = In {
+            pool: &pool,
+            asked: &[vec![], vec![0x00, 0x01], vec![0x10]],
+        };
+        let counts: Vec<usize> = counts(size).filter(|count| *count <= MOST_ITEMS).collect();
+        for (at, &more) in counts.iter().enumerate() {
+            for &fewer in &counts[..=at] {
+                let [x, y] = half_meeting(more, fewer).map(|list| List::new(list, &here));
+                self.both_ways(&x, &y, &here);
+            }
+        }
+    }
+
+    /// All pairs of accepted items with keys at the limits of length, each a list, and lists whose keys are as long as a key may be, or one
+    /// byte shorter, and begin alike.
+    fn long_keys(&mut self, size: &Size) {
+        let [_, pool, _] = even_pools();
+        let here = In {
+            pool: &pool,
+            asked: &[vec![], vec![0x7F], vec![0x7F; 254], vec![0x7F; 255]],
+        };
+        let accepted = |item: &Words| refusals::list(&pool, item, 0).is_ok();
+        let single = |item| List::new(vec![item], &here);
+        let items = limit_items(&pool).into_iter().filter(accepted);
+        let lists: Vec<List> = items.map(single).collect();
+        for (at, x) in lists.iter().enumerate() {
+            for y in &lists[..at] {
+                self.both_ways(x, y, &here);
+            }
+        }
+        let count = size.longest / 16;
+        for length in [254, 255] {
+            let (pool, keys) = alike_keys(length, 4 * count);
+            let asked: Vec<Vec<u8>> = (keys.iter().step_by(count))
+                .map(|[at, length]| pool[*at as usize..][..*length as usize].to_vec())
+                .collect();
+            let here = In {
+                pool: &pool,
+                asked: &asked,
+            };
+            let half_meeting = |from: usize| {
+                let range = |at: usize| {
+                    let [[a, b], [c, d]] = [keys[4 * at + from], keys[4 * at + from + 2]];
+                    [1 + at as u32 % 2, 0, a, b, c, d]
+                };
+                List::new((0..count).map(range).collect(), &here)
+            };
+            self.both_ways(&half_meeting(0), &half_meeting(1), &here);
         }
     }
 

@@ -4,7 +4,7 @@
 use crate::{
     algebra::paper,
     hexadecimal,
-    inputs::{bad_lists, counting_pools, damage, disorder, Keys},
+    inputs::{bad_lists, counting_pools, counts, damage, disorder, half_meeting, Keys},
     items::six,
     many,
     random::Random,
@@ -19,6 +19,7 @@ pub fn run(random: &mut Random, size: &Size) -> Vec<Row> {
         Row::new("intersect_many, refused"),
     ];
     edges(&mut rows);
+    limits(&mut rows, size);
     for at in 0..size.random / 4 {
         // few lists are long, and those are at the limit
         let most = match at < size.long_lists {
@@ -55,6 +56,38 @@ fn edges(rows: &mut [Row; 2]) {
             for theirs in &lists {
                 let rooms = [[0; 3], [5, 11, 12], [12, 5, 24], [24, 12, 5], [40; 3]];
                 hold(rows, pool, ours, theirs, &rooms);
+            }
+        }
+    }
+}
+
+/// None, one, and items at the limit, against each of these, in pools at the limit: with room that is just enough, or is one word short in one
+/// list or in all, or a whole item.
+fn limits(rows: &mut [Row; 2], size: &Size) {
+    for pool in &counting_pools() {
+        for x in counts(size) {
+            for y in counts(size) {
+                let [ours, theirs] = half_meeting(x, y).map(|list| list.concat());
+                // each shared part is one of ours and one of theirs, and takes a half of both
+                let exact = [x.min(y), x, y].map(|count| 6 * count);
+                let short = |at: usize, by: usize| {
+                    let mut room = exact;
+                    room[at] = room[at].saturating_sub(by);
+                    room
+                };
+                let all_short = exact.map(|room| room.saturating_sub(1));
+                let rooms = [
+                    exact,
+                    short(0, 1),
+                    short(1, 1),
+                    short(2, 1),
+                    short(0, 6),
+                    short(1, 6),
+                    short(2, 6),
+                    all_short,
+                    exact.map(|room| room + 1),
+                ];
+                hold(rows, pool, &ours, &theirs, &rooms);
             }
         }
     }

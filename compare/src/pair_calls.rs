@@ -4,7 +4,7 @@ use crate::{
     algebra::{paper, rust},
     calls::{place, Calls},
     fernsponge, hexadecimal,
-    inputs::{bad_items, counting_pools, damage_word, Pool},
+    inputs::{bad_items, counting_pools, damage_word, even_pools, limit_items, Pool},
     items::{all_items, item_of, maybe_words, read, Words},
     keys_of,
     random::Random,
@@ -44,11 +44,17 @@ fn all_pairs(calls: &mut Calls, keys: &[Vec<u8>]) {
     }
 }
 
-/// Every fault of ours beside every fault of theirs, in pools at the limits.
+/// Every fault of ours beside every fault of theirs, and all pairs of items with keys at the limits, in pools at the limits.
 fn edges(calls: &mut Calls) {
-    for pool in &counting_pools() {
-        for x in bad_items() {
-            for y in bad_items() {
+    let pools = counting_pools().map(|pool| (pool, bad_items().collect()));
+    let even = even_pools().map(|pool| {
+        let items = limit_items(&pool);
+        (pool, items)
+    });
+    let all: Vec<(Vec<u8>, Vec<Words>)> = pools.into_iter().chain(even).collect();
+    for (pool, items) in &all {
+        for &x in items {
+            for &y in items {
                 hold(calls, pool, x, y);
             }
         }

@@ -4,8 +4,8 @@
 use crate::{
     calls::{wide_lent, Calls, WIDE_MARK},
     fernsponge, hexadecimal,
-    inputs::{bytes, damage, lists_of, plain_items},
-    items::{has_end, has_start, list_holds},
+    inputs::{bytes, damage, lists_of, plain_items, POOL_LENGTHS},
+    items::{has_end, has_start, list_holds, Words},
     many::items,
     positions::{paper, position_keys, position_pool, rust},
     random::Random,
@@ -34,9 +34,10 @@ pub fn run(random: &mut Random, size: &Size) -> Vec<Row> {
         table: Row::new("from_query_items: positions, by the table"),
         calls: 0,
     };
-    all.keys(random);
+    all.keys(random, size);
     all.lists(&POSITIONS[..size.positions]);
     all.edges();
+    all.limits();
     for at in 0..size.random / 4 {
         let most = match at % 1_000 {
             0 => 2_046 + random.below(4),
@@ -53,8 +54,8 @@ pub fn run(random: &mut Random, size: &Size) -> Vec<Row> {
 }
 
 impl All {
-    fn keys(&mut self, random: &mut Random) {
-        for length in (0..20).chain([255, 256, 300]) {
+    fn keys(&mut self, random: &mut Random, size: &Size) {
+        for length in (0..20).chain([254, 255, 256, 300]) {
             for _ in 0..100 {
                 let key = bytes(random, length);
                 self.key(&key);
@@ -66,8 +67,11 @@ impl All {
         for bit in 0..64 {
             self.key(&(1u64 << bit).to_be_bytes());
         }
-        for _ in 0..1_000 {
+        for _ in 0..size.random / 4 {
             self.key(&random.next().to_be_bytes());
+            let length = random.below(300);
+            let key = bytes(random, length);
+            self.key(&key);
         }
     }
 
@@ -111,10 +115,10 @@ impl All {
             [7, 0, u32::MAX, 8, 0, 0],
         ];
         let mut lists = lists_of(&faulty, 3, |_| true);
-        lists.push(vec![good; 2_048]);
         lists.push(vec![good; 2_049]);
         lists.push(vec![short; 2_049]);
-        for length in [12, 400, 65_536, 65_537] {
+        lists.extend([254, 255, 256].map(|length| vec![key(0, length)]));
+        for length in [12, 400].into_iter().chain(POOL_LENGTHS) {
             let pool = vec![0; length];
             for list in &lists {
                 self.query(&pool, &list.concat(), 1);
@@ -122,6 +126,42 @@ impl All {
             let words = [good, short].concat();
             for length in 0..12 {
                 self.query(&pool, &words[..length], 1);
+            }
+            // to the end of the pool, and past it
+            for past in 0..=8 {
+                self.query(&pool, &[0, 0, (length - 8 + past) as u32, 8, 0, 0], 1);
+            }
+        }
+    }
+
+    /// None, one, and items at the limit, whose positions ascend or descend: apart, adjacent, or all one; up to u64::MAX, which no item
+    /// covers. In pools at the limit, with room that is just enough, one number or one pair short, or spare.
+    fn limits(&mut self) {
+        for length in POOL_LENGTHS {
+            for step in [2, 1, 0] {
+                // each at its place in the pool, the last one u64::MAX
+                let positions: Vec<u64> = (0..2_049).map(|at| LAST - (2_048 - at) * step).collect();
+                let mut pool = position_pool(&positions);
+                pool.resize(length, 0);
+                for count in [0, 1, 2_047, 2_048, 2_049] {
+                    let key = |at: usize| [0, 0, 8 * (2_048 - at) as u32, 8, 0, 0];
+                    let descending: Vec<Words> = (0..count).map(key).collect();
+                    let ascending: Vec<Words> = descending.iter().rev().copied().collect();
+                    for list in [descending, ascending] {
+                        let words = list.concat();
+                        for rows in [0, LAST - 1, LAST] {
+                            let ranges = match refusals::position_items(&pool, &words) {
+                                Ok(()) => paper::ranges(&pool, &words, rows).len(),
+                                Err(_) => count,
+                            };
+                            let exact = 2 * ranges;
+                            for room in [exact, exact.saturating_sub(1), exact.saturating_sub(2)] {
+                                self.query_in(&pool, &words, rows, room);
+                            }
+                            self.query_in(&pool, &words, rows, exact + 1);
+                        }
+                    }
+                }
             }
         }
     }

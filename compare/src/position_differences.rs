@@ -1,4 +1,4 @@
-//! D15, D16 and D18 in docs/DIFFERENCES.md: each input that stands there, on both sides, and what stands there of both.
+//! D15 to D18 in docs/DIFFERENCES.md: each input that stands there, on both sides, and what stands there of both.
 
 use crate::{
     calls::{wide_lent, WIDE_MARK},
@@ -10,7 +10,7 @@ use crate::{
 };
 
 pub fn run() -> Vec<Row> {
-    vec![repeated(), unsorted(), wrapped()]
+    vec![repeated(), unsorted(), crossing(), wrapped()]
 }
 
 fn repeated() -> Row {
@@ -47,6 +47,32 @@ fn extra(row: &mut Row, intervals: &[u64], proved: &[u64], refused: u64, stated:
         || format!("{proved:?} against {intervals:?}"),
         Against::differences(ours, rust, [Err(refused), Ok(stated)]),
     );
+}
+
+fn crossing() -> Row {
+    let mut row = Row::new("D17 spans out of order");
+    // 8, side 1, and the index
+    let refused = |index: u64| 8 + 256 + index * 65_536;
+    for (intervals, spans, refused, stated) in [
+        ([0, 3], &[[2, 1]][..], refused(0), report(4, &[0, 1, 1, 2])),
+        ([2, 3], &[[0, 3], [1, 2]], refused(1), report(1, &[2])),
+        ([0, 2], &[[5, 9], [0, 2]], refused(1), report(2, &[0, 1])),
+    ] {
+        let mut ours = report(WIDE_MARK, &[]);
+        let ours = match fernsponge::missing_from_spans(&intervals, spans, &mut ours) {
+            0 => Ok(ours),
+            returned => Err(returned),
+        };
+        let rust = Ok(rust::missing_from_spans(
+            &rust::intervals(&intervals),
+            spans,
+        ));
+        row.hold(
+            || format!("{spans:?} against {intervals:?}"),
+            Against::differences(ours, rust, [Err(refused), Ok(stated)]),
+        );
+    }
+    row
 }
 
 /// The Rust has a text for each wrapper, and we one number: 5, side 0, index 0.

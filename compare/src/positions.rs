@@ -1,7 +1,10 @@
 //! Module 6: what document 01 says of positions and of reports on them, and what the Rust answers.
 
 use crate::{
-    fernsponge::Report, items::Words, position_intervals::PositionIntervals, query_item::QueryItem,
+    fernsponge::{Report, Span},
+    items::Words,
+    position_intervals::PositionIntervals,
+    query_item::QueryItem,
     Error,
 };
 
@@ -125,6 +128,28 @@ pub mod paper {
         report(len(intervals) - present as u64, &smallest)
     }
 
+    /// The covered positions that no span contains, of spans that do not cross: how many, and the smallest.
+    pub fn missing_from_spans(intervals: &[u64], spans: &[Span]) -> Report {
+        let mut missing = len(intervals);
+        let mut smallest = vec![];
+        for pair in intervals.chunks(2) {
+            for [start, end] in spans {
+                missing -= pair[1].min(*end).saturating_sub(pair[0].max(*start));
+            }
+            let mut at = pair[0];
+            while at < pair[1] && smallest.len() < 16 {
+                match spans.iter().find(|[start, end]| *start <= at && at < *end) {
+                    Some(span) => at = span[1],
+                    None => {
+                        smallest.push(at);
+                        at += 1;
+                    }
+                }
+            }
+        }
+        report(missing, &smallest)
+    }
+
     /// The proved positions that are not covered: how many, and the smallest.
     pub fn extra_in(intervals: &[u64], proved: &[u64]) -> Report {
         let extra = proved.iter().filter(|at| !contains(intervals, **at));
@@ -197,7 +222,7 @@ pub mod rust {
         intervals
     }
 
-    fn pairs(intervals: &PositionIntervals) -> Vec<u64> {
+    pub fn pairs(intervals: &PositionIntervals) -> Vec<u64> {
         let ranges = intervals.ranges().iter();
         ranges.flat_map(|(start, end)| [*start, *end]).collect()
     }
@@ -205,6 +230,11 @@ pub mod rust {
     pub fn missing_from(intervals: &PositionIntervals, proved: &[u64]) -> Report {
         let proved: BTreeSet<u64> = proved.iter().copied().collect();
         in_places(&intervals.missing_from(&proved))
+    }
+
+    pub fn missing_from_spans(intervals: &PositionIntervals, spans: &[Span]) -> Report {
+        let spans: Vec<(u64, u64)> = spans.iter().map(|[start, end]| (*start, *end)).collect();
+        in_places(&intervals.missing_from_spans(&spans))
     }
 
     pub fn extra_in(intervals: &PositionIntervals, proved: &[u64]) -> Report {

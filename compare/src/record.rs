@@ -5,7 +5,7 @@
 use crate::{
     algebra::rust as algebra,
     boundaries::{all_boundaries, boundaries_of, rust as boundary},
-    fernsponge::Report,
+    fernsponge::{Report, Span},
     inputs::{all_lists, few_keys, lists_of, plain_items, Keys, Pool},
     insert_calls::wrapped_items,
     insertion::{paper as inserting, rust as insertion, Left},
@@ -665,6 +665,9 @@ const EXTRA_IN: u8 = 7;
 const MISSING_FROM_SPANS: u8 = 8;
 const DESCRIBE: u8 = 9;
 
+/// How many spans a call that is replayed has at most.
+const FEW_SPANS: usize = 32;
+
 const LAST: u64 = u64::MAX;
 
 fn positions() -> Sample {
@@ -726,12 +729,12 @@ fn positions() -> Sample {
         let proved: Vec<u64> = (0..below).filter(|_| random.below(3) == 0).collect();
         let asked = [random.below(below as usize) as u64, at];
         sample.intervals(&points, &asked, &proved);
-        let mut spans = vec![];
+        let mut spans: Vec<Span> = vec![];
         let mut from = 0;
         for _ in 0..random.below(5) {
             from += random.below(8) as u64;
             let to = from + random.below(8) as u64;
-            spans.extend([from, to]);
+            spans.push([from, to]);
             from = to;
         }
         sample.spanned(&points, &spans);
@@ -806,17 +809,15 @@ impl Sample {
         self.case(EXTRA_IN, inputs, answer().report(&extra));
         self.describe(&missing);
         let below_last = proved.iter().filter(|at| **at < LAST);
-        let spans: Vec<u64> = below_last.flat_map(|at| [*at, at + 1]).collect();
+        let spans: Vec<Span> = below_last.map(|at| [*at, at + 1]).collect();
         self.spanned(words, &spans);
     }
 
-    fn spanned(&mut self, words: &[u64], spans: &[u64]) {
-        let inputs = Bytes::new().numbers(words).numbers(spans);
-        self.case(
-            MISSING_FROM_SPANS,
-            inputs,
-            answer().report(&rust_spans(words, spans)),
-        );
+    fn spanned(&mut self, words: &[u64], spans: &[Span]) {
+        assert!(spans.len() <= FEW_SPANS, "so many spans are replayed");
+        let inputs = Bytes::new().numbers(words).numbers(&spans.concat());
+        let report = position::missing_from_spans(&position::intervals(words), spans);
+        self.case(MISSING_FROM_SPANS, inputs, answer().report(&report));
     }
 
     fn describe(&mut self, report: &Report) {
@@ -840,12 +841,13 @@ impl Sample {
             );
         }
         for (words, spans, index) in [
-            ([0, 3], &[2, 1][..], 0),
-            ([2, 3], &[0, 3, 1, 2], 1),
-            ([0, 2], &[5, 9, 0, 2], 1),
+            ([0, 3], &[[2, 1]][..], 0),
+            ([2, 3], &[[0, 3], [1, 2]], 1),
+            ([0, 2], &[[5, 9], [0, 2]], 1),
         ] {
-            let inputs = Bytes::new().numbers(&words).numbers(spans);
-            let rust = answer().report(&rust_spans(&words, spans));
+            let inputs = Bytes::new().numbers(&words).numbers(&spans.concat());
+            let rust = position::missing_from_spans(&position::intervals(&words), spans);
+            let rust = answer().report(&rust);
             self.listed(MISSING_FROM_SPANS, inputs, refusal(8, 1, index), rust);
         }
         // the Rust's is a text
@@ -868,10 +870,4 @@ fn query_inputs(list: &[Words], count: u64, pool: &[u8], more: usize) -> Bytes {
     };
     let lent = Bytes::new().pool(pool).long(count).short(2 * ranges + more);
     lent.short(ranges).list(list)
-}
-
-fn rust_spans(words: &[u64], spans: &[u64]) -> Report {
-    let spans: Vec<(u64, u64)> = spans.chunks(2).map(|span| (span[0], span[1])).collect();
-    let mismatch = position::intervals(words).missing_from_spans(&spans);
-    report(mismatch.total, &mismatch.examples)
 }

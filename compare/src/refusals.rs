@@ -178,6 +178,18 @@ pub fn proved(intervals: &[u64], proved: &[u64]) -> Checked<()> {
     }
 }
 
+/// Spans beside intervals: 8 for the first that starts above its end or below the end before it.
+pub fn spans(intervals: &[u64], spans: &[[u64; 2]]) -> Checked<()> {
+    self::intervals(intervals)?;
+    for (index, [start, end]) in spans.iter().enumerate() {
+        let crosses = index > 0 && *start < spans[index - 1][1];
+        if crosses || start > end {
+            return refuse(8, 1, index);
+        }
+    }
+    Ok(())
+}
+
 /// The range of an item that has neither 1 nor 2 nor 3.
 fn upright(item: Words, pool: &[u8], side: u64, index: usize) -> Checked<[Boundary<'_>; 2]> {
     let number = fault(item, pool);

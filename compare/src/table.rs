@@ -1,6 +1,6 @@
 //! The table that a run ends with. The first failures of each function, and its first listed difference, are printed where they are found.
 
-use std::fmt::Debug;
+use std::{fmt::Debug, fs, io, path::Path};
 
 const MOST_PRINTED: u64 = 5;
 
@@ -30,6 +30,10 @@ pub struct Against<R, P> {
 /// One function, with its calls and how they came out.
 pub struct Row {
     name: &'static str,
+    /// the listed difference's number in docs/DIFFERENCES.md
+    difference: &'static str,
+    /// no other row counts these calls
+    own: bool,
     calls: u64,
     as_rust: Agreed,
     as_paper: Agreed,
@@ -112,15 +116,31 @@ impl<R: Debug, P: Debug> Against<R, P> {
 }
 
 impl Row {
+    /// A name that starts with the number of a difference is that difference's.
     pub fn new(name: &'static str) -> Self {
         Self {
             name,
+            difference: name.split(' ').next().unwrap_or(name),
+            own: true,
             calls: 0,
             as_rust: Agreed::default(),
             as_paper: Agreed::default(),
             listed: 0,
             failures: 0,
         }
+    }
+
+    /// A row of calls that another one counts, or of none of ours.
+    pub fn again(name: &'static str) -> Self {
+        Self {
+            own: false,
+            ..Self::new(name)
+        }
+    }
+
+    /// The row, some of whose calls differ as listed under the number.
+    pub fn differing(self, difference: &'static str) -> Self {
+        Self { difference, ..self }
     }
 
     /// Counts a call. It fails where our answer is not document 01's, or is not the Rust's and no difference is listed.
@@ -157,10 +177,16 @@ impl Row {
     fn cells(&self) -> [String; 6] {
         [
             self.name.to_string(),
-            self.calls.to_string(),
+            match self.own {
+                true => grouped(self.calls),
+                false => format!("({})", grouped(self.calls)),
+            },
             self.as_rust.cell(),
             self.as_paper.cell(),
-            self.listed.to_string(),
+            match self.listed {
+                0 => "-".to_string(),
+                listed => format!("{}: {}", self.difference, grouped(listed)),
+            },
             self.failures.to_string(),
         ]
     }
@@ -179,7 +205,7 @@ impl Agreed {
     fn cell(&self) -> String {
         match self.held {
             0 => "-".to_string(),
-            _ => self.same.to_string(),
+            _ => grouped(self.same),
         }
     }
 }
@@ -195,5 +221,55 @@ pub fn print(rows: &[Row]) {
             print!("  {cell:>width$}");
         }
         println!();
+    }
+    println!("{}", in_all(rows));
+}
+
+/// The same as a document, which a run with the same inputs writes again to the byte.
+pub fn write(rows: &[Row], file: &Path) -> io::Result<()> {
+    let mut text = HEAD.to_string();
+    for row in rows {
+        text += &format!("| {} |\n", row.cells().join(" | "));
+    }
+    text += &format!("\n{}\n", in_all(rows));
+    fs::write(file, text)
+}
+
+const HEAD: &str = "\
+# Our answers beside the Rust's
+
+Written by `make compare`. The inputs are the same in every run, and so is this table. Each row is a function, or calls of it of one kind:
+exhaustively on small domains, at random on large ones, and at the limits (0, 1, 2,047, 2,048 and 2,049 items; keys of 0, 1, 254, 255 and 256
+bytes; pools of 65,535, 65,536 and 65,537 bytes; buffers exactly full and one short; u64::MAX).
+
+\"As the Rust\" counts calls that answer what the Rust answers. \"As document 01\" counts calls that answer and leave what a small plain reading
+of document 01 in `compare/` says: refusals, the words written and the words not written, which the Rust hasn't; it is no agreement with the
+Rust. A dash: there is nothing of that side to hold the calls against. Listed differences bear their number in docs/DIFFERENCES.md; the rows
+named after one run its inputs, and hold both sides to what stands there. Anything else is a failure. Calls in brackets are counted in another
+row, or are none of ours.
+
+| function | calls | as the Rust | as document 01 | listed differences | failures |
+|---|--:|--:|--:|--:|--:|
+";
+
+/// How many calls there are, each counted once.
+fn in_all(rows: &[Row]) -> String {
+    let sum = |of: fn(&Row) -> u64| grouped(rows.iter().filter(|row| row.own).map(of).sum());
+    let [calls, as_rust, as_paper] = [
+        sum(|row| row.calls),
+        sum(|row| row.as_rust.same),
+        sum(|row| row.as_paper.same),
+    ];
+    let failures: u64 = rows.iter().map(Row::failures).sum();
+    format!(
+        "{calls} calls in all, each counted once: {as_rust} as the Rust, {as_paper} as document 01; {failures} failures."
+    )
+}
+
+/// A number with a comma before every three digits.
+pub fn grouped(number: u64) -> String {
+    match number {
+        0..1_000 => number.to_string(),
+        _ => format!("{},{:03}", grouped(number / 1_000), number % 1_000),
     }
 }

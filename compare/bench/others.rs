@@ -1,0 +1,236 @@
+//! Key comparison, insertion and positions.
+
+use crate::timing::{calls, least, prepared};
+use compare::{
+    fernsponge::{self, Report},
+    inputs::alike_keys,
+    items::read,
+    random::Random,
+    table::grouped,
+    timed::{Covered, Off, Positions},
+    Query, QueryItem, SEED,
+};
+use std::hint::black_box;
+
+/// The least times of one call, in nanoseconds. The reference is what the standard library has for it.
+pub struct Line {
+    pub what: String,
+    pub ours: Option<f64>,
+    pub rust: f64,
+    pub reference: Option<f64>,
+}
+
+/// Two keys of one length, by the place of the byte in which they differ. The reference is the standard library's order of slices.
+pub fn key_comparison() -> Vec<Line> {
+    let mut lines = vec![];
+    for length in [8, 32, 200, 255] {
+        for (place, at) in [
+            ("first", Some(0)),
+            ("middle", Some(length / 2)),
+            ("last", Some(length - 1)),
+            ("no", None),
+        ] {
+            let a = vec![0x7F; length];
+            let mut b = a.clone();
+            if let Some(at) = at {
+                b[at] = 0x80;
+            }
+            let order = a.cmp(&b) as i8 + 1;
+            assert_eq!(fernsponge::compare(&a, &b), order as u64);
+            assert_eq!(QueryItem::compare(&a, &b) as i8 + 1, order);
+            let (a, b) = (&a[..], &b[..]);
+            let [ours, rust, reference] = least([
+                calls(move || fernsponge::compare(black_box(a), black_box(b))),
+                calls(move || QueryItem::compare(black_box(a), black_box(b))),
+                calls(move || black_box(a).cmp(black_box(b))),
+            ]);
+            lines.push(Line {
+                what: format!("{length} bytes, {place} byte differs"),
+                ours: Some(ours),
+                rust,
+                reference: Some(reference),
+            });
+        }
+    }
+    lines
+}
+
+/// A key into 2,047 keys, none of which it meets.
+pub fn insertion() -> Vec<Line> {
+    const COUNT: usize = 2_047;
+    let mut lines = vec![];
+    for length in [8, 32, 200] {
+        let (pool, keys) = alike_keys(length, 2 * COUNT + 1);
+        let item = |at: usize| [0, 0, keys[at][0], keys[at][1], 0, 0];
+        let list: Vec<u32> = (0..COUNT).flat_map(|at| item(2 * at + 1)).collect();
+        let items: Vec<QueryItem> = list.chunks(6).filter_map(|it| read(it, &pool)).collect();
+        for (place, at) in [("first", 0), ("middle", COUNT / 2), ("last", COUNT)] {
+            let new = item(2 * at);
+            let rust_item = read(&new, &pool).expect("the words are an item's");
+            let full = || [&list[..], &[0; 6]].concat();
+            let lent = || {
+                let items = items.clone();
+                (Query { items }, Some(rust_item.clone()))
+            };
+            let insert = |words: &mut Vec<u32>| {
+                let mut after = 0;
+                let returned = fernsponge::insert_item(&pool, words, COUNT, &new, &mut after);
+                (returned, after)
+            };
+            let rust_insert = |(query, item): &mut (Query, Option<QueryItem>)| {
+                query.insert_item(item.take().expect("an item for every call"));
+            };
+            let (mut words, mut query) = (full(), lent());
+            assert_eq!(insert(&mut words), (0, COUNT as u64 + 1));
+            rust_insert(&mut query);
+            let written = words.chunks(6).filter_map(|it| read(it, &pool));
+            assert_eq!(written.collect::<Vec<_>>(), query.0.items);
+            let [ours, rust] = least([prepared(full, insert), prepared(lent, rust_insert)]);
+            lines.push(Line {
+                what: format!("keys of {length} bytes, into 2,047, put {place}"),
+                ours: Some(ours),
+                rust,
+                reference: None,
+            });
+        }
+    }
+    lines
+}
+
+/// The intervals of 2,048 ranges that do not touch, and of 2,048 that overlap in pairs.
+pub fn building() -> Vec<Line> {
+    const COUNT: u64 = 2_048;
+    let mut lines = vec![];
+    for (shape, width) in [("apart", 4), ("overlapping in pairs", 12)] {
+        let positions = (0..COUNT).flat_map(|at| [32 * (at / 2) + 8 * (at % 2), width]);
+        let positions: Vec<u64> = positions.collect();
+        let ranges = positions.chunks(2).map(|pair| [pair[0], pair[0] + pair[1]]);
+        let ranges: Vec<[u64; 2]> = ranges.collect();
+        let pool: Vec<u8> = (ranges.iter().flatten())
+            .flat_map(|position| position.to_be_bytes())
+            .collect();
+        let item = |at: u32| [1, 0, 16 * at, 8, 16 * at + 8, 8];
+        let mut order: Vec<u32> = (0..COUNT as u32).collect();
+        for shuffled in [false, true] {
+            if shuffled {
+                let random = &mut Random::new(SEED);
+                for at in 1..order.len() {
+                    order.swap(at, random.below(at + 1));
+                }
+            }
+            let words: Vec<u32> = order.iter().flat_map(|at| item(*at)).collect();
+            let items: Vec<QueryItem> = words.chunks(6).filter_map(|it| read(it, &pool)).collect();
+            let mut out = vec![0; 2 * COUNT as usize];
+            let mut pairs = 0;
+            let mut build = || {
+                fernsponge::from_query_items(&pool, &words, u64::MAX, &mut out, &mut pairs);
+                (out.clone(), pairs)
+            };
+            let (written, pairs) = build();
+            let told = &written[..2 * pairs as usize];
+            assert_eq!(told, Covered::new(&items, u64::MAX).pairs());
+            let (mut out, mut pairs) = (vec![0; 2 * COUNT as usize], 0);
+            let (pool, words, items) = (&pool[..], &words[..], &items[..]);
+            let [ours, rust] = least([
+                calls(move || {
+                    let pool = black_box(pool);
+                    fernsponge::from_query_items(pool, words, u64::MAX, &mut out, &mut pairs)
+                }),
+                calls(move || Covered::new(black_box(items), u64::MAX)),
+            ]);
+            let in_order = if shuffled { "shuffled" } else { "ascending" };
+            lines.push(Line {
+                what: format!("2,048 items, {shape}, {in_order}"),
+                ours: Some(ours),
+                rust,
+                reference: None,
+            });
+        }
+    }
+    lines
+}
+
+/// 2,000 intervals, and 100,000 positions that are all theirs, or half of which stand between them.
+pub fn mismatches() -> Vec<Line> {
+    const INTERVALS: u64 = 2_000;
+    let mut lines = vec![];
+    for (shape, step) in [("all proved", 1), ("every second one missing", 2)] {
+        // intervals of 50, each 100 after the one before; positions go on with the same step up to the next
+        let starts = || (0..INTERVALS).map(|at| 100 * at);
+        let intervals: Vec<u64> = starts().flat_map(|start| [start, start + 50]).collect();
+        let proved: Vec<u64> = starts()
+            .flat_map(|start| (0..50).map(move |at| start + step * at))
+            .collect();
+        let spans = spans_of(&proved);
+        let rust = Positions::new(&intervals, &proved, &spans);
+        let (intervals, proved, spans, rust) = (&intervals[..], &proved[..], &spans[..], &rust);
+        let [mut a, mut b] = [(); 2].map(|()| empty());
+        fernsponge::missing_from(intervals, proved, &mut a);
+        fernsponge::extra_in(intervals, proved, &mut b);
+        hold(&a, &rust.missing_from());
+        hold(&b, &rust.extra_in());
+        let [missing, rust_missing, extra, rust_extra] = least([
+            calls(move || fernsponge::missing_from(black_box(intervals), proved, &mut a)),
+            calls(move || black_box(rust).missing_from()),
+            calls(move || fernsponge::extra_in(black_box(intervals), proved, &mut b)),
+            calls(move || black_box(rust).extra_in()),
+        ]);
+        let counted = format!("2,000 intervals, 100,000 positions, {shape}");
+        assert_eq!((intervals.len(), proved.len()), (2 * 2_000, 100_000));
+        let mut line = |name: &str, ours, rust| {
+            lines.push(Line {
+                what: format!("{name}: {counted}"),
+                ours,
+                rust,
+                reference: None,
+            });
+        };
+        line("missing_from", Some(missing), rust_missing);
+        let (ours, rust) = missing_from_spans(intervals, spans, rust);
+        let name = format!("missing_from_spans, {} spans", grouped(spans.len() as u64));
+        line(&name, ours, rust);
+        line("extra_in", Some(extra), rust_extra);
+    }
+    lines
+}
+
+/// The same by spans.
+fn missing_from_spans(
+    intervals: &[u64],
+    spans: &[[u64; 2]],
+    rust: &Positions,
+) -> (Option<f64>, f64) {
+    let mut report = empty();
+    fernsponge::missing_from_spans(intervals, spans, &mut report);
+    hold(&report, &rust.missing_from_spans());
+    let [ours, rust] = least([
+        calls(|| fernsponge::missing_from_spans(black_box(intervals), spans, &mut report)),
+        calls(|| black_box(rust).missing_from_spans()),
+    ]);
+    (Some(ours), rust)
+}
+
+/// Positions that ascend, as spans: each run of neighbours is one.
+fn spans_of(positions: &[u64]) -> Vec<[u64; 2]> {
+    let mut spans: Vec<[u64; 2]> = vec![];
+    for &position in positions {
+        match spans.last_mut() {
+            Some(last) if last[1] == position => last[1] += 1,
+            _ => spans.push([position, position + 1]),
+        }
+    }
+    spans
+}
+
+fn empty() -> Report {
+    Report {
+        total: 0,
+        count: 0,
+        examples: [0; 16],
+    }
+}
+
+fn hold(ours: &Report, rust: &Off) {
+    let examples = &ours.examples[..ours.count as usize];
+    assert_eq!((ours.total, examples), rust.told());
+}

@@ -1,0 +1,290 @@
+//! What a run says: tables of the least times with their ratios, and each target.
+
+use crate::{lists::Timed, others::Line};
+use compare::table::grouped;
+
+pub struct Measured {
+    pub lists: Vec<Timed>,
+    pub key_comparison: Vec<Line>,
+    pub insertion: Vec<Line>,
+    pub building: Vec<Line>,
+    pub mismatches: Vec<Line>,
+}
+
+impl Measured {
+    /// The lesser of two times, line by line.
+    pub fn least(mut self, other: Self) -> Self {
+        for (one, two) in self.lists.iter_mut().zip(other.lists) {
+            one.ours = one.ours.min(two.ours);
+            one.rust = one.rust.min(two.rust);
+            one.trusting = one.trusting.min(two.trusting);
+            one.checking = one.checking.min(two.checking);
+        }
+        for (lines, others) in [
+            (&mut self.key_comparison, other.key_comparison),
+            (&mut self.insertion, other.insertion),
+            (&mut self.building, other.building),
+            (&mut self.mismatches, other.mismatches),
+        ] {
+            for (one, two) in lines.iter_mut().zip(others) {
+                let lesser = |(x, y): (f64, f64)| x.min(y);
+                one.ours = one.ours.zip(two.ours).map(lesser);
+                one.rust = one.rust.min(two.rust);
+                one.reference = one.reference.zip(two.reference).map(lesser);
+            }
+        }
+        self
+    }
+}
+
+const HEAD: &str = "\
+# Benchmarks
+
+Written by `make bench`, which times our calls and the Rust's in one run, on the same inputs, by the same driver, both built for release. Each
+time is the processor's time for one call, the least of 3 to 75 runs in three passes over the whole; the sides take turns. Inputs are made
+before, and answers are held against one another before they are timed (the Rust's lists up to 128 items). Buffers that are lent are warm, as the
+call before has left them, and have room for as many items as both lists have; the Rust gets its memory during the call, and neither cloning
+the list that it drains nor freeing what it answers is timed.
+
+The reference for lists is a sweep with two indexes, written by hand in Rust and unproved (`compare/bench/sweep.rs`), which takes and gives the
+same words: *trusting* takes accepted lists and enough room for granted, *checking* refuses what our call refuses. For keys it is the standard
+library's order of slices.
+
+";
+
+const LISTS: &str = "
+## The three lists
+
+Both lists have as many items, all of them ranges. *Disjoint*: all of ours stand below theirs. *Interleaved*: ours and theirs take turns, and
+none meet. *Half-overlapping*: each of ours meets one of theirs by half, so that each of the three lists has as many items as ours. Keys of the
+first rows all begin alike and differ near their ends; those of the last rows differ in their first bytes (*early*). *Growth* is our time
+beside that of half as many items.
+
+![times of the three lists](benchmarks.svg)
+
+| keys | lists | items | ours | the Rust | trusting sweep | checking sweep | the Rust / ours | ours / trusting | ours / checking | growth |
+|--:|---|--:|--:|--:|--:|--:|--:|--:|--:|--:|
+";
+
+const LINES: &str = "
+| | ours | the Rust | the Rust / ours |
+|---|--:|--:|--:|
+";
+
+const REFERRED: &str = "
+| | ours | the Rust | slices | the Rust / ours | ours / slices |
+|---|--:|--:|--:|--:|--:|
+";
+
+pub fn text(measured: &Measured) -> String {
+    let mut text = HEAD.to_string();
+    let kind = std::env::consts::ARCH;
+    text += &format!("Processor: {kind}.\n\n## Targets\n\n");
+    text += "| target | measured | |\n|---|---|---|\n";
+    for target in targets(measured) {
+        text += &target.row();
+    }
+    text += LISTS;
+    for (at, timed) in measured.lists.iter().enumerate() {
+        let growth = growth(&measured.lists, at).map_or("-".to_string(), two);
+        text += &format!(
+            "| {} | {} | {} | {} | {} | {} | {} | {} | {} | {} | {growth} |\n",
+            keys(timed),
+            timed.arrangement.name(),
+            grouped(timed.items as u64),
+            time(timed.ours),
+            time(timed.rust),
+            time(timed.trusting),
+            time(timed.checking),
+            times(timed.rust / timed.ours),
+            two(timed.ours / timed.trusting),
+            two(timed.ours / timed.checking),
+        );
+    }
+    for (title, lines) in [
+        ("Comparing two keys", &measured.key_comparison),
+        ("Insertion", &measured.insertion),
+        ("Building positions", &measured.building),
+        ("Missing and extra positions", &measured.mismatches),
+    ] {
+        text += &format!("\n## {title}\n");
+        let referred = lines.iter().any(|line| line.reference.is_some());
+        text += if referred { REFERRED } else { LINES };
+        for line in lines {
+            text += &line.row(referred);
+        }
+    }
+    text
+}
+
+impl Line {
+    fn row(&self, referred: bool) -> String {
+        let or_dash = |value: Option<String>| value.unwrap_or("-".to_string());
+        let ours = or_dash(self.ours.map(time));
+        let ratio = or_dash(self.ours.map(|ours| two(self.rust / ours)));
+        let rust = time(self.rust);
+        let what = &self.what;
+        if !referred {
+            return format!("| {what} | {ours} | {rust} | {ratio} |\n");
+        }
+        let reference = or_dash(self.reference.map(time));
+        let both = self.ours.zip(self.reference);
+        let beside = or_dash(both.map(|(ours, reference)| two(ours / reference)));
+        format!("| {what} | {ours} | {rust} | {reference} | {ratio} | {beside} |\n")
+    }
+}
+
+/// The length of the keys, and whether they differ early.
+fn keys(timed: &Timed) -> String {
+    let early = if timed.alike { "" } else { ", early" };
+    format!("{}{early}", timed.length)
+}
+
+/// Our time beside that of half as many items, where the line before has it.
+fn growth(lists: &[Timed], at: usize) -> Option<f64> {
+    let (before, timed) = (lists.get(at.checked_sub(1)?)?, &lists[at]);
+    (2 * before.items == timed.items).then(|| timed.ours / before.ours)
+}
+
+struct Target {
+    text: &'static str,
+    bound: f64,
+    at_least: bool,
+    /// the worst that was measured, and where
+    worst: f64,
+    of: String,
+}
+
+impl Target {
+    fn row(&self) -> String {
+        let (worst, bound) = (self.worst, self.bound);
+        let (met, by) = match self.at_least {
+            true => (worst >= bound, bound / worst),
+            false => (worst <= bound, worst / bound),
+        };
+        let said = match met {
+            true => "met".to_string(),
+            false => format!("missed by {} times", two(by)),
+        };
+        let end = if self.at_least { "least" } else { "most" };
+        format!(
+            "| {} | at {end} {}: {} | {said} |\n",
+            self.text,
+            times(worst),
+            self.of
+        )
+    }
+}
+
+fn targets(measured: &Measured) -> Vec<Target> {
+    let longest = measured.lists.iter().map(|timed| timed.items).max();
+    let at_longest = || {
+        let lists = measured.lists.iter();
+        lists.filter(|timed| Some(timed.items) == longest)
+    };
+    let of = |timed: &Timed| {
+        let name = timed.arrangement.name();
+        let items = grouped(timed.items as u64);
+        format!("{items} items, keys of {}, {name}", keys(timed))
+    };
+    let ratio = |line: &Line| {
+        let ours = line.ours?;
+        Some((ours / line.rust, line.what.clone()))
+    };
+    let starting = |name: &'static str| {
+        let lines = measured.mismatches.iter();
+        let named = lines.filter(move |line| line.what.starts_with(name));
+        named.filter_map(ratio)
+    };
+    let turned = |(ratio, what): (f64, String)| (1.0 / ratio, what);
+    let grown = (0..measured.lists.len())
+        .filter_map(|at| Some((growth(&measured.lists, at)?, of(&measured.lists[at]))));
+    let mut targets = vec![
+        least(
+            "the three lists at 2,048 at least 1,000 times as fast as the Rust",
+            1_000.0,
+            at_longest().map(|timed| (timed.rust / timed.ours, of(timed))),
+        ),
+        most(
+            "the three lists at 2,048 within 2 times the hand-written sweep that checks as ours does",
+            2.0,
+            at_longest().map(|timed| (timed.ours / timed.checking, of(timed))),
+        ),
+        most(
+            "and within 2 times the one that trusts its input",
+            2.0,
+            at_longest().map(|timed| (timed.ours / timed.trusting, of(timed))),
+        ),
+        most("twice the items at most 2.3 times the time", 2.3, grown),
+        most(
+            "building positions within 3 times of the Rust",
+            3.0,
+            measured.building.iter().filter_map(ratio),
+        ),
+        most("missing no slower than the Rust", 1.0, starting("missing_from:")),
+        most("missing by spans no slower", 1.0, starting("missing_from_spans")),
+        most("extra no slower", 1.0, starting("extra_in")),
+        least(
+            "insertion at least 10 times as fast as the Rust",
+            10.0,
+            measured.insertion.iter().filter_map(ratio).map(turned),
+        ),
+    ];
+    targets.retain(|target| !target.of.is_empty());
+    targets
+}
+
+fn least(text: &'static str, bound: f64, of: impl Iterator<Item = (f64, String)>) -> Target {
+    let worst = of.min_by(|x, y| x.0.total_cmp(&y.0));
+    let (worst, of) = worst.unwrap_or_default();
+    let at_least = true;
+    Target {
+        text,
+        bound,
+        at_least,
+        worst,
+        of,
+    }
+}
+
+fn most(text: &'static str, bound: f64, of: impl Iterator<Item = (f64, String)>) -> Target {
+    let worst = of.max_by(|x, y| x.0.total_cmp(&y.0));
+    let (worst, of) = worst.unwrap_or_default();
+    let at_least = false;
+    Target {
+        text,
+        bound,
+        at_least,
+        worst,
+        of,
+    }
+}
+
+/// A time of so many nanoseconds, with three digits.
+fn time(nanoseconds: f64) -> String {
+    let (value, unit) = match nanoseconds {
+        n if n < 1e3 => (n, "ns"),
+        n if n < 1e6 => (n / 1e3, "µs"),
+        n if n < 1e9 => (n / 1e6, "ms"),
+        n => (n / 1e9, "s"),
+    };
+    format!("{} {unit}", digits(value))
+}
+
+fn two(ratio: f64) -> String {
+    digits(ratio)
+}
+
+fn times(ratio: f64) -> String {
+    format!("{} times", digits(ratio))
+}
+
+/// About three digits, and whole numbers from 100 on.
+fn digits(value: f64) -> String {
+    match value {
+        v if v < 10.0 => format!("{v:.2}"),
+        v if v < 100.0 => format!("{v:.1}"),
+        v if v < 1e3 => format!("{v:.0}"),
+        v => grouped(v.round() as u64),
+    }
+}

@@ -1,0 +1,158 @@
+//! Calls our functions and the Rust's that they rebuild, in one process, and counts where they agree. main.rs is the program, and
+//! ../bench/ times the two sides.
+
+// position_intervals.rs finds QueryItem in a crate of this name
+extern crate self as grovedb_merk;
+
+mod algebra;
+mod boundaries;
+mod calls;
+mod departures;
+pub mod inputs;
+mod insert_calls;
+mod insert_differences;
+mod insertion;
+mod interval_calls;
+mod item_calls;
+pub mod items;
+mod key_order;
+mod laws;
+mod list_calls;
+mod list_differences;
+mod many;
+mod many_calls;
+mod many_refused;
+mod pair_calls;
+mod position_calls;
+mod position_differences;
+mod positions;
+pub mod random;
+pub mod record;
+mod refusals;
+mod stand_ins;
+pub mod table;
+pub mod timed;
+
+// our calls, as words
+pub use ::fernsponge::words as fernsponge;
+
+// the names under which the Rust's files look for these
+pub use stand_ins::Query;
+use stand_ins::{error, error::Error, hex_to_ascii, proofs};
+
+// the Rust's own files, as build.rs brings them in
+include!(concat!(env!("OUT_DIR"), "/grovedb.rs"));
+pub use query_item::QueryItem;
+
+use random::Random;
+use std::cmp::Ordering;
+
+pub const SEED: u64 = 0x46_45_52_4E;
+
+/// The bytes of short keys: the two ends, the neighbour of one, and the last before the sign bit.
+const BYTES: [u8; 4] = [0x00, 0x01, 0x7F, 0xFF];
+
+/// How much a run calls.
+pub struct Size {
+    /// the random inputs of each function
+    random: u64,
+    /// the most bytes of the keys that every item is asked for
+    asked: usize,
+    /// whether all pairs of items over keys of two bytes are tried, and not of one alone
+    more_pairs: bool,
+    /// the keys over which all lists of three items are tried
+    listed: usize,
+    /// the keys over which all pairs of accepted lists of three items are tried
+    crossed: usize,
+    /// the random pairs of accepted lists, and triples; how many of the pairs are long, and how long
+    lists: u64,
+    long_lists: u64,
+    longest: usize,
+    /// the keys over which every item is inserted into all lists of three items
+    inserted: usize,
+    /// the positions over which all queries of two items are tried
+    positions: usize,
+    /// the counts of items at and near the limit that lists are tried with, beside none and one
+    counts: &'static [usize],
+}
+
+pub const SHORT: Size = Size {
+    random: 50_000,
+    asked: 2,
+    more_pairs: false,
+    listed: 3,
+    crossed: 3,
+    lists: 500,
+    long_lists: 2,
+    longest: 512,
+    inserted: 2,
+    positions: 6,
+    counts: &[2_049],
+};
+
+pub const LONG: Size = Size {
+    random: 1_000_000,
+    asked: 3,
+    more_pairs: true,
+    listed: 4,
+    crossed: 4,
+    lists: 10_000,
+    long_lists: 6,
+    longest: 2_048,
+    inserted: 4,
+    positions: 10,
+    counts: &[2_047, 2_048, 2_049],
+};
+
+pub fn run(size: &Size) -> Vec<table::Row> {
+    let random = &mut Random::new(SEED);
+    let mut rows = items::run();
+    rows.extend(key_order::run(random, size.random));
+    rows.extend(item_calls::run(random, size));
+    rows.extend(list_calls::run(random, size));
+    rows.extend(pair_calls::run(random, size));
+    rows.extend(many_calls::run(random, size));
+    rows.extend(many_refused::run(random, size));
+    rows.extend(laws::run(random, size));
+    rows.extend(list_differences::run());
+    rows.extend(insert_calls::run(random, size));
+    rows.extend(insert_differences::run());
+    rows.extend(position_calls::run(random, size));
+    rows.extend(interval_calls::run(random, size));
+    rows.extend(position_differences::run());
+    rows
+}
+
+/// Every key of at most so many of the bytes, the empty one first.
+fn keys_of(bytes: &[u8], length: usize) -> Vec<Vec<u8>> {
+    let mut keys = vec![vec![]];
+    let mut from = 0;
+    for _ in 0..length {
+        let to = keys.len();
+        for at in from..to {
+            for byte in bytes {
+                let longer = [&keys[at][..], &[*byte]].concat();
+                keys.push(longer);
+            }
+        }
+        from = to;
+    }
+    keys
+}
+
+/// 0 less, 1 equal, 2 greater.
+fn order_number(order: Ordering) -> u64 {
+    match order {
+        Ordering::Less => 0,
+        Ordering::Equal => 1,
+        Ordering::Greater => 2,
+    }
+}
+
+/// As document 01's listing has keys: upper-case hexadecimal, an empty one as `-`.
+fn hexadecimal(key: &[u8]) -> String {
+    match key {
+        [] => "-".to_string(),
+        _ => key.iter().map(|byte| format!("{byte:02X}")).collect(),
+    }
+}
