@@ -22,6 +22,8 @@
 //! # Ok::<(), fernsponge::Refusal>(())
 //! ```
 
+#![deny(missing_docs)]
+
 mod ask;
 mod item;
 mod lists;
