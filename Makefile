@@ -4,8 +4,10 @@ RUN ?= long $(CURDIR)/docs/COMPARISON.md
 # What the program is shown on, and how many damaged files it is tried on.
 FILE ?= samples/document.krl
 COUNT ?= 10000
+# cargo by itself: it takes no part in make's own share of the cores.
+CARGO := env -u MAKEFLAGS -u MFLAGS cargo
 
-.PHONY: run test lib compare compare-short bench record attack attack-short link-short link-c link-rust
+.PHONY: run test library-short program-short lib compare compare-short bench record attack attack-short link-short link-c link-rust
 
 # The program krl on a file. What is proved and unchanged is not proved again.
 run: target/krl.log
@@ -16,14 +18,23 @@ target/krl.log: crates.txt $(shell find crates -name '*.rt' -o -name '*.antt')
 	@echo "make: proving and building krl; from nothing that takes some minutes" >&2
 	@rt check krl >$@ 2>&1 || { cat $@; rm -f $@; exit 1; }
 
-# The gate. What the short comparison and the short attack run on is proved first, in one go; `rt ci` starts from nothing and has the last word.
+# The gate. What the library is made of is proved first, two crates at a time; then the library is made, compared and linked while the program
+# is proved and attacked. `rt ci` starts from nothing and has the last word.
 test:
 	rt fmt --check
-	rt check krl $(shell sed -n 's/^fernsponge: *//p' crates.txt)
-	@$(MAKE) --no-print-directory compare-short
-	@$(MAKE) --no-print-directory attack-short
-	@$(MAKE) --no-print-directory link-short
+	rt check $(shell sed -n 's/:.*//p' crates.txt | grep -Ev '^(#|vectors|krl|rows|fernsponge)')
+	@$(MAKE) --no-print-directory --jobs=2 --output-sync=recurse library-short program-short
 	rt ci
+
+library-short:
+	@$(MAKE) --no-print-directory compare-short
+	@$(MAKE) --no-print-directory link-short
+
+# Begins once the library's own proof is under way, or after a minute: two `rt` that look at the same proved crates at once could take one
+# another's notes for their own.
+program-short:
+	@for second in $$(seq 60); do [ -d target/staticlib ] && break; sleep 1; done
+	@$(MAKE) --no-print-directory attack-short
 
 # The program on files that are damaged in many ways.
 attack: target/krl.log
@@ -46,7 +57,7 @@ lib:
 
 # Our answers held against the Rust's, some five minutes; the table goes to docs/COMPARISON.md.
 compare: lib
-	GROVEDB_SRC="$(GROVEDB_SRC)" cargo run --quiet --release --offline --manifest-path compare/Cargo.toml -- $(RUN)
+	GROVEDB_SRC="$(GROVEDB_SRC)" $(CARGO) run --quiet --release --offline --manifest-path compare/Cargo.toml -- $(RUN)
 
 # The same on a sample, where cargo and the Rust are at hand.
 compare-short:
@@ -75,12 +86,12 @@ link-c: lib
 	target/listing | diff - crates/krl/stdout
 
 link-rust: lib
-	cargo test --quiet --offline --manifest-path rust/Cargo.toml
-	cargo run --quiet --offline --manifest-path rust/Cargo.toml --example lanes -- samples/ours.lanes samples/theirs.lanes | diff - crates/krl/stdout
+	$(CARGO) test --quiet --offline --manifest-path rust/Cargo.toml
+	$(CARGO) run --quiet --offline --manifest-path rust/Cargo.toml --example lanes -- samples/ours.lanes samples/theirs.lanes | diff - crates/krl/stdout
 
 # Both sides timed in one run, some five minutes; the tables go to docs/BENCHMARKS.md, and the chart to docs/benchmarks.svg.
 bench: lib
-	GROVEDB_SRC="$(GROVEDB_SRC)" cargo run --quiet --release --offline --manifest-path compare/Cargo.toml --bin bench -- "$(CURDIR)/docs"
+	GROVEDB_SRC="$(GROVEDB_SRC)" $(CARGO) run --quiet --release --offline --manifest-path compare/Cargo.toml --bin bench -- "$(CURDIR)/docs"
 
 # The Rust's answers that the programs vectors_.. replay, made anew.
 record:
