@@ -235,22 +235,16 @@ fn targets(measured: &Measured) -> Vec<Target> {
 }
 
 fn least(text: &'static str, bound: f64, of: impl Iterator<Item = (f64, String)>) -> Target {
-    let worst = of.min_by(|x, y| x.0.total_cmp(&y.0));
-    let (worst, of) = worst.unwrap_or_default();
-    let at_least = true;
-    Target {
-        text,
-        bound,
-        at_least,
-        worst,
-        of,
-    }
+    target(text, bound, true, of.min_by(|x, y| x.0.total_cmp(&y.0)))
 }
 
 fn most(text: &'static str, bound: f64, of: impl Iterator<Item = (f64, String)>) -> Target {
-    let worst = of.max_by(|x, y| x.0.total_cmp(&y.0));
+    target(text, bound, false, of.max_by(|x, y| x.0.total_cmp(&y.0)))
+}
+
+/// A target, and the worst that was measured for it.
+fn target(text: &'static str, bound: f64, at_least: bool, worst: Option<(f64, String)>) -> Target {
     let (worst, of) = worst.unwrap_or_default();
-    let at_least = false;
     Target {
         text,
         bound,

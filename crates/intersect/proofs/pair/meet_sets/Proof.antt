@@ -1,12 +1,19 @@
 -- `intersect::pair::meet_sets` meets its contract: either may stand before the other; else the orders of starts and ends pick. Assumes nothing.
-use Rattle.intersect.specs.Pair.{meetSets}
+use mathlib.Core.Path.{_≡_}
+use mathlib.Core.Bool.{true}
+use Rattle.intersect.specs.Pair.{before, disjoint, meetSets}
 use borrow.Author.Needs.{needs}
 use Rattle.intersect.proofs.pair.meet_sets.Statement.{statement}
 use Rattle.intersect.proofs.pair.meet_sets.Tie as tie
 
 returns : tie.Need-returns
 unfolding meetSets
-returns c = rw (← c .before .before .is-before .ensures, ← c .before .is-before2 .ensures, c .if1 .taken)
+returns c =
+    let args = c .before .before .before .before .args in
+    let first : c .before .before .is-before .result ≡ before (args .pool .now) (args .ours) (args .theirs) = c .before .before .is-before .ensures in
+    let second : c .before .is-before2 .result ≡ before (args .pool .now) (args .theirs) (args .ours) = c .before .is-before2 .ensures in
+    let apart : disjoint (args .pool .now) (args .ours) (args .theirs) ≡ true = rw (← first, ← second) (c .if1 .taken) in
+    rw apart
 
 returns-2 : tie.Need-returns-2
 unfolding meetSets
