@@ -15,7 +15,7 @@ use Rattle.range_borrowed.specs.declared.KeyContainmentResult.{KeyContainmentRe
 use Rattle.range_borrowed.specs.Kinds.{kindNumber, kindNumbered}
 use Rattle.item_check.specs.Checks.{Answer, answered, refused}
 
--- ---- numbers
+-- ---- numbers (01 form.11)
 
 -- how one key or boundary stands to another
 abbrev pub orderNumber : Ordering → ℕ
@@ -31,7 +31,7 @@ boolNumber b = cond b 1 0
 abbrev pub isKind : ℕ → Bool
 isKind n = leb n 4
 
--- ---- six words, and seven
+-- ---- six words, and seven (01 keys.3, change.2)
 
 -- two boundaries as six words, laid out as an item's: the kinds of start and end for code and wrapper, then both keys.
 -- The key words of an unbounded one are written as 0, and not read
@@ -62,7 +62,7 @@ maybeNumbers m = maybeCount m ∷ flat (maybeWords m)
 abbrev pub containmentNumbers : KeyContainmentResult → List ℕ
 containmentNumbers c = boolNumber (c .included) ∷ boolNumber (c .«on_bounds_not_included») ∷ []
 
--- ---- what a call returns, and what it leaves
+-- ---- what a call returns, and what it leaves (01 refusal.1)
 
 -- a greater index is told as 2 ^ 40, so that the number fits 64 bits; no accepted list has so many items
 abbrev pub mostIndex : ℕ

@@ -15,7 +15,7 @@ use Rattle.item_check.specs.Checks.{Answer, answered, refused, Verdict, accepte
 use Rattle.item_ask.specs.Calls.{toQueryItemAnswer}
 use Rattle.fernsponge.specs.Answers.{isKind, setOfWords}
 
--- a number that is no kind is refused with 1, 0 and 0, as an unknown code is
+-- 01 no.1: a number that is no kind is refused with 1, 0 and 0, as an unknown code is
 
 abbrev pub kindVerdict : ℕ → Verdict
 kindVerdict n = cond (isKind n) accepted (refused 1 0 0)
@@ -30,10 +30,10 @@ compareAnswer left a right b =
 abbrev pub invertAnswer : ℕ → Bool → Answer BoundaryKind
 invertAnswer n isStart = andThen (kindVerdict n) (answered (invertKind (kindNumbered n) isStart))
 
--- the refusal of a kind and that of the pool are the same, so that their order shows nowhere
+-- 01 refusal.6: the refusal of a kind and that of the pool are the same, so that their order shows nowhere
 abbrev pub betweenAnswer : List ℕ → ItemWords → Answer MaybeItem
 betweenAnswer pool it = andThen (kindsVerdict (it .code) (it .wrapper)) (toQueryItemAnswer pool (setOfWords it))
 
--- left of a key, or else right of it
+-- 01 m2.4: left of a key, or else right of it
 abbrev pub directionOfFlag : Bool → Direction
 directionOfFlag left = cond left LeftOf RightOf

@@ -8,7 +8,7 @@ use Rattle.item_check.specs.Checks.{Answer}
 use Rattle.intersect_many.specs.Lists.{sharedItems, onlyItems, manyAnswer, written}
 use Rattle.fernsponge.specs.Answers.{maybeNumbers, returned, left}
 
--- the pair: it returns r, and the five places, which held in-both and the others, are left with the parts, each an item that may be missing
+-- 01 m3.6: the pair: it returns r, and the five places, which held in-both and the others, are left with the parts, each an item that may be missing
 pub record GivesPair (answer : Answer QueryItemIntersectionResult) (in-both ours-left ours-right theirs-left theirs-right : List ℕ)
     (r : ℕ) (in-both′ ours-left′ ours-right′ theirs-left′ theirs-right′ : List ℕ) : Type 0 where
   pub number : r ≡ returned answer
@@ -18,11 +18,11 @@ pub record GivesPair (answer : Answer QueryItemIntersectionResult) (in-both ours
   pub theirs-before : theirs-left′ ≡ left (λ p. maybeNumbers (p .«theirs_left»)) answer theirs-left
   pub theirs-after : theirs-right′ ≡ left (λ p. maybeNumbers (p .«theirs_right»)) answer theirs-right
 
--- the three lists: how many items each has
+-- 01 change.2: the three lists: how many items each has
 abbrev pub countNumbers : ManyCounts → List ℕ
 countNumbers c = c .«in_both» ∷ c .ours ∷ c .theirs ∷ []
 
--- the call returns r, and what was lent to it, both, mine, yours and counts, is left as it has to be
+-- 01 m4.5: the call returns r, and what was lent to it, both, mine, yours and counts, is left as it has to be
 pub record GivesMany (pool ours theirs both mine yours counts : List ℕ) (r : ℕ) (both′ mine′ yours′ counts′ : List ℕ) : Type 0 where
   pub number : r ≡ returned (manyAnswer pool ours theirs both mine yours)
   pub shared : both′ ≡ written (manyAnswer pool ours theirs both mine yours) (sharedItems pool ours theirs) both

@@ -8,19 +8,19 @@ use Rattle.position_query.specs.Covered.{buildVerdict, FromQueryItems}
 use Rattle.position_mismatch.specs.declared.PositionMismatch.{PositionMismatch}
 use Rattle.fernsponge.specs.Answers.{returned, left}
 
--- a report of three parts
+-- 01 m6.10: a report of three parts
 abbrev pub reportOf : ℕ → ℕ → List ℕ → PositionMismatch
 reportOf total count examples = record { total = total; count = count; examples = examples }
 
--- a comparison: it returns r, and the three places, which held total, count and examples, are left with the report
+-- 01 m6.10: a comparison: it returns r, and the three places, which held total, count and examples, are left with the report
 pub record GivesReport (answer : Answer PositionMismatch) (total count : ℕ) (examples : List ℕ) (r total′ count′ : ℕ) (examples′ : List ℕ) : Type 0 where
   pub number : r ≡ returned answer
   pub totalled : total′ ≡ left (λ m. m .total) answer total
   pub counted : count′ ≡ left (λ m. m .count) answer count
   pub shown : examples′ ≡ left (λ m. m .examples) answer examples
 
--- `from_query_items`: it returns r, and leaves the words, out before, as document 01 says of the number of pairs that it tells, and that
--- number's place as it was where it refuses
+-- 01 m6.5, m6.6: `from_query_items`: it returns r, and leaves the words, out before, as document 01 says of the number of pairs that it tells,
+-- and that number's place as it was where it refuses
 pub record GivesPairs (pool ws : List ℕ) (count : ℕ) (out : List ℕ) (pairs r : ℕ) (out′ : List ℕ) (pairs′ : ℕ) : Type 0 where
   pub number : r ≡ returned (buildVerdict pool ws count (length out))
   pub written : FromQueryItems pool ws count out out′ (andThen (buildVerdict pool ws count (length out)) (answered pairs′))

@@ -8,7 +8,7 @@ use insert::Inserted;
 use item_words::ITEM_SIZE;
 use item_words::item_at;
 
-// Inserts an item into the list of the first count items of words, and tells the new count.
+// Inserts an item into the list of the first count items of words, and tells the new count (01 m5.9).
 #[no_mangle]
 pub extern "C" fn fernsponge_insert_item(
     pool: &[u8],

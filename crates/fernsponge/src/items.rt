@@ -37,7 +37,7 @@ use range_borrowed::Direction;
 use range_borrowed::kind_number;
 use range_borrowed::kind_numbered;
 
-// How a boundary of one kind at the key a stands to one of another at b: 0 less, 1 equal, 2 greater.
+// How a boundary of one kind at the key a stands to one of another at b: 0 less, 1 equal, 2 greater (01 m2.1).
 #[no_mangle]
 pub extern "C" fn fernsponge_compare_boundaries(
     kind_a: u32,
@@ -61,7 +61,7 @@ pub extern "C" fn fernsponge_compare_boundaries(
     MALFORMED
 }
 
-// The kind of the inverted boundary, as a start or as an end.
+// The kind of the inverted boundary, as a start or as an end (01 m2.2).
 #[no_mangle]
 pub extern "C" fn fernsponge_invert(kind: u32, is_start: bool, inverted: &mut u32) -> u64
     ensures { λ r. ⌜ r ≡ returned (invertAnswer kind «is_start») ⌝ }
@@ -74,7 +74,7 @@ pub extern "C" fn fernsponge_invert(kind: u32, is_start: bool, inverted: &mut u3
     MALFORMED
 }
 
-// The two boundaries of an item.
+// The two boundaries of an item (01 m2.1).
 #[no_mangle]
 pub extern "C" fn fernsponge_to_range_set(
     pool: &[u8],
@@ -93,7 +93,7 @@ pub extern "C" fn fernsponge_to_range_set(
     }
 }
 
-// The item of two boundaries, which may be missing.
+// The item of two boundaries, which may be missing (01 keys.12).
 #[no_mangle]
 pub extern "C" fn fernsponge_to_query_item(
     pool: &[u8],
@@ -127,7 +127,7 @@ fn give_item(answer: ItemAnswer, item: &mut [u32; MAYBE_SIZE]) -> u64
     }
 }
 
-// Two numbers, 1 for yes and 0 for no: whether an item holds a key, and whether the key sits on an exclusive bound.
+// Two numbers, 1 for yes and 0 for no: whether an item holds a key, and whether the key sits on an exclusive bound (01 m2.3).
 #[no_mangle]
 pub extern "C" fn fernsponge_could_contain_key<'a>(
     pool: &'a [u8],
@@ -147,7 +147,7 @@ pub extern "C" fn fernsponge_could_contain_key<'a>(
     }
 }
 
-// 1 for yes and 0 for no: whether keys that an item holds may stand left of a key, or else right of it.
+// 1 for yes and 0 for no: whether keys that an item holds may stand left of a key, or else right of it (01 m2.4).
 #[no_mangle]
 pub extern "C" fn fernsponge_could_have_items_in_direction<'a>(
     pool: &'a [u8],
@@ -168,7 +168,7 @@ pub extern "C" fn fernsponge_could_have_items_in_direction<'a>(
     }
 }
 
-// Whether a list can be used in the algebra, as ours or as theirs.
+// Whether a list can be used in the algebra, as ours or as theirs (01 no.4).
 #[no_mangle]
 pub extern "C" fn fernsponge_check_list(pool: &[u8], words: &[u32], theirs: bool) -> u64
     ensures { λ r. ⌜ r ≡ returned (checkVerdict (now (pool .entry)) (now (words .entry)) (boolNumber theirs)) ⌝ }

@@ -18,7 +18,7 @@ ghost use Rattle.key_order.specs.Order.{compareKeys, smaller};
 ghost use Rattle.fernsponge.specs.Answers.{orderNumber};
 use crate::numbers::order_number;
 
-// How a stands to b: 0 less, 1 equal, 2 greater.
+// How a stands to b: 0 less, 1 equal, 2 greater (01 m1.1).
 #[no_mangle]
 pub extern "C" fn fernsponge_compare(a: &[u8], b: &[u8]) -> u64
     ensures { λ r. ⌜ r ≡ orderNumber (compareKeys (now (a .entry)) (now (b .entry))) ⌝ }
@@ -26,7 +26,7 @@ pub extern "C" fn fernsponge_compare(a: &[u8], b: &[u8]) -> u64
     order_number(key_order::compare(a, b)) as u64
 }
 
-// Writes the smaller of a and b into part, and b on a tie: the lent bytes themselves. An exported function can't return them.
+// Writes the smaller of a and b into part, and b on a tie: the lent bytes themselves. An exported function can't return them (01 m1.3).
 #[no_mangle]
 pub extern "C" fn fernsponge_order_items<'a>(a: &'a [u8], b: &'a [u8], part: &mut &'a [u8])
     ensures { λ _. ⌜ now (part .exit) ≡ smaller (compareKeys (now (a .entry)) (now (b .entry))) (a .entry) (b .entry) ⌝ }

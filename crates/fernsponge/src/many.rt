@@ -5,7 +5,7 @@ use intersect_many::ManyAnswer;
 use intersect_many::intersect_many_ordered;
 
 // What two lists share, what ours keeps without theirs, and what theirs keeps without ours, as items at the front of both, mine and yours,
-// and how many items each of these has, as three numbers.
+// and how many items each of these has, as three numbers (01 m4.1, m4.2, m4.3).
 #[no_mangle]
 pub extern "C" fn fernsponge_intersect_many(
     pool: &[u8],

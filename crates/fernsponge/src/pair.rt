@@ -10,7 +10,7 @@ use intersect::pair::intersect_items;
 use item_words::ITEM_SIZE;
 use item_words::item_at;
 
-// What two items share, what is left over of ours on the left and on the right, and so of theirs: five items, each of which may be missing.
+// What two items share, what is left over of ours on the left and on the right, and so of theirs: five items, each of which may be missing (01 m3.6).
 #[no_mangle]
 pub extern "C" fn fernsponge_intersect_items(
     pool: &[u8],

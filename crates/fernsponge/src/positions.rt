@@ -28,7 +28,7 @@ use position_spans::Span;
 // A key that is no position: number 7, side 0, index 0.
 const NO_POSITION: u64 = 7;
 
-// The position of a key.
+// The position of a key (01 m6.2).
 #[no_mangle]
 pub extern "C" fn fernsponge_be_u64(key: &[u8], position: &mut u64) -> u64
     ensures { λ r. ⌜ r ≡ returned (positionAnswer (now (key .entry))) ⌝ }
@@ -41,7 +41,7 @@ pub extern "C" fn fernsponge_be_u64(key: &[u8], position: &mut u64) -> u64
     0
 }
 
-// Writes the positions below count that items cover, as canonical pairs at the front of out, and tells how many pairs they are.
+// Writes the positions below count that items cover, as canonical pairs at the front of out, and tells how many pairs they are (01 m6.4, m6.5).
 #[no_mangle]
 pub extern "C" fn fernsponge_from_query_items(
     pool: &[u8],
@@ -61,7 +61,7 @@ pub extern "C" fn fernsponge_from_query_items(
     }
 }
 
-// Whether a position lies in one of the intervals: 1 for yes and 0 for no.
+// Whether a position lies in one of the intervals: 1 for yes and 0 for no (01 m6.8).
 #[no_mangle]
 pub extern "C" fn fernsponge_contains(intervals: &[u64], position: u64, yes: &mut u32) -> u64
     ensures { λ r. ⌜ r ≡ returned (containsAnswer (now (intervals .entry)) position) ⌝ }
@@ -73,7 +73,7 @@ pub extern "C" fn fernsponge_contains(intervals: &[u64], position: u64, yes: &mu
     )
 }
 
-// How many positions are covered.
+// How many positions are covered (01 m6.9).
 #[no_mangle]
 pub extern "C" fn fernsponge_len(intervals: &[u64], rows: &mut u64) -> u64
     ensures { λ r. ⌜ r ≡ returned (lenAnswer (now (intervals .entry))) ⌝ }
@@ -88,7 +88,7 @@ pub extern "C" fn fernsponge_len(intervals: &[u64], rows: &mut u64) -> u64
     }
 }
 
-// Whether no position is covered: 1 for yes and 0 for no.
+// Whether no position is covered: 1 for yes and 0 for no (01 m6.9).
 #[no_mangle]
 pub extern "C" fn fernsponge_is_empty(intervals: &[u64], yes: &mut u32) -> u64
     ensures { λ r. ⌜ r ≡ returned (isEmptyAnswer (now (intervals .entry))) ⌝ }
@@ -110,7 +110,7 @@ fn give_yes(answer: YesOrNo, yes: &mut u32) -> u64
     }
 }
 
-// The report that nothing is off. It refuses nothing.
+// The report that nothing is off. It refuses nothing (01 form.4).
 #[no_mangle]
 pub extern "C" fn fernsponge_empty_report(
     total: &mut u64,
@@ -127,7 +127,7 @@ pub extern "C" fn fernsponge_empty_report(
     give_report(compared, total, count, examples)
 }
 
-// Which covered positions are not proved.
+// Which covered positions are not proved (01 m6.10).
 #[no_mangle]
 pub extern "C" fn fernsponge_missing_from(
     intervals: &[u64],
@@ -146,7 +146,7 @@ pub extern "C" fn fernsponge_missing_from(
     )
 }
 
-// Which covered positions no span contains. A span is two words, its start and its end.
+// Which covered positions no span contains. A span is two words, its start and its end (01 m6.11).
 #[no_mangle]
 pub extern "C" fn fernsponge_missing_from_spans(
     intervals: &[u64],
@@ -165,7 +165,7 @@ pub extern "C" fn fernsponge_missing_from_spans(
     )
 }
 
-// Which proved positions are not covered.
+// Which proved positions are not covered (01 m6.10).
 #[no_mangle]
 pub extern "C" fn fernsponge_extra_in(
     intervals: &[u64],
@@ -206,7 +206,7 @@ fn give_report(
     }
 }
 
-// Writes a report's text to the front of out, and tells its length.
+// Writes a report's text to the front of out, and tells its length (01 m6.13).
 #[no_mangle]
 pub extern "C" fn fernsponge_describe(
     total: u64,

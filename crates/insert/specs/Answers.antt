@@ -12,43 +12,43 @@ use Rattle.insert.specs.declared.Inserted.{Inserted}
 use Rattle.insert.specs.declared.Inserted.the-variants as inserted
 use Rattle.insert.specs.Insertion as insertion
 
--- the paper's numbers and values for each case of the answer: the new count, or the refusal
+-- 01 form.11: the paper's numbers and values for each case of the answer: the new count, or the refusal
 abbrev pub insertedOf : Inserted → Answer ℕ
 insertedOf (inserted.Count n) = answered n
 insertedOf (inserted.Refused r) = refusedAs r
 
 -- ---- the room
 
--- 01 m5: 6 exactly if the final count exceeds the buffer or 2,048
+-- 01 m5.9: 6 exactly if the final count exceeds the buffer or 2,048
 abbrev pub roomAnswer : List ℕ → ℕ → Answer ℕ
 roomAnswer ws n = cond (ltb (length ws / itemSize) n || ltb mostItems n) (refused 6 0 0) (answered n)
 
 -- ---- the words
 
--- 01 m5: the words of the list; freed words up to the old count become 0, later ones stay
+-- 01 m5.8: the words of the list; freed words up to the old count become 0, later ones stay
 unfoldable pub laid : List ℕ → ℕ → List ItemWords → List ℕ
 laid ws count its =
     flatAll its ++ (replicate (itemSize * (count - length its)) 0 ++ drop (itemSize * max count (length its)) ws)
 
--- 01 m5, reading A1: on a refusal all words stay
+-- 01 demand.1, reading A1: on a refusal all words stay
 abbrev pub wordsBy : Answer ℕ → List ℕ → List ℕ → List ℕ
 wordsBy (answered n) before after = after
 wordsBy (refused number side index) before after = before
 
 -- ---- the call
 
--- 01 m5: the list after insertion
+-- 01 m5.6: the list after insertion
 abbrev pub listAfter : List ℕ → List ℕ → ℕ → ItemWords → List ItemWords
 listAfter pool ws count new = insertion.inserted pool new (itemsFrom ws 0 count)
 
--- where the checks have passed: the room decides
+-- 01 m5.9: where the checks have passed: the room decides
 abbrev pub checkedAnswer : List ℕ → List ℕ → ℕ → ItemWords → Answer ℕ
 checkedAnswer pool ws count new = roomAnswer ws (length (listAfter pool ws count new))
 
 abbrev pub checkedWords : List ℕ → List ℕ → ℕ → ItemWords → List ℕ
 checkedWords pool ws count new = wordsBy (checkedAnswer pool ws count new) ws (laid ws count (listAfter pool ws count new))
 
--- 01 Order: the checks, then 6
+-- 01 refusal.6: the checks, then 6
 abbrev pub insertAnswer : List ℕ → List ℕ → ℕ → ItemWords → Answer ℕ
 insertAnswer pool ws count new = andThen (inputVerdict pool ws count new) (checkedAnswer pool ws count new)
 

@@ -8,11 +8,11 @@ use Rattle.query_item.specs.declared.ItemWords.{ItemWords}
 use Rattle.insert_order.specs.Order.{orderItems}
 use Rattle.insert_merge.specs.Merge.{staying, mergedWith}
 
--- 01 m5: the result goes before the first item not below it
+-- 01 m5.6: the result goes before the first item not below it
 unfoldable pub placed : List ℕ → ItemWords → List ItemWords → List ItemWords
 placed pool result [] = result ∷ []
 placed pool result (it ∷ its) = cond (isLess (orderItems pool it result)) (it ∷ placed pool result its) (result ∷ it ∷ its)
 
--- 01 m5, reading A7: what is replaced or merged is taken out, then the result is put anew
+-- 01 m5.2, m5.4, reading A7: what is replaced or merged is taken out, then the result is put anew
 unfoldable pub inserted : List ℕ → ItemWords → List ItemWords → List ItemWords
 inserted pool new its = placed pool (mergedWith pool new new its) (staying pool new its)

@@ -1,5 +1,5 @@
--- What the passes over a list go by, an item at a time: what has to be asked, the first change, the moved tail. `proofs/` says that they give what Insertion.antt
--- and Answers.antt define. Assumes nothing.
+-- What the passes over a list go by, an item at a time: what has to be asked, the first change, the moved tail. `proofs/` says that they give
+-- what Insertion.antt and Answers.antt define. It serves 01 m5.6, m5.7, m5.8. Assumes nothing.
 use Prim.Native.Nat.{ℕ, suc, _*_, _-_, _≤_, _<_, max}
 use mathlib.Core.Path.{_≡_}
 use mathlib.Core.List.{List, [], _∷_, _++_}

@@ -35,7 +35,8 @@ pub enum Inserted {
     Refused(Refusal),
 }
 
-// Inserts an item into the list of the first count items of words. The answer is the new count; where it is a refusal no word has changed.
+// Inserts an item into the list of the first count items of words. The answer is the new count; where it is a refusal no word has changed
+// (01 m5.1, m5.9, demand.1).
 pub fn insert_item(pool: &[u8], words: &mut [u32], count: usize, item: ItemWords) -> Inserted
     ensures { λ r. ⌜ insertedOf r ≡ insertAnswer (now (pool .entry)) (now (words .entry)) count item ⌝ }
     ensures { λ r. ⌜ now (words .exit) ≡ insertWords (now (pool .entry)) (now (words .entry)) count item ⌝ }

@@ -16,11 +16,11 @@ use Rattle.insert_merge.specs.declared.Fate.the-variants.{Replaced, Stay
 
 -- ---- what becomes of the list's items
 
--- 01 m3: two ranges are disjoint when one end is below the other start
+-- 01 m3.1, m5.5: two ranges are disjoint when one end is below the other start
 abbrev pub disjoint : List ℕ → ItemWords → ItemWords → Bool
 disjoint pool x y = endsBelow pool x y || endsBelow pool y x
 
--- 01 m5: an equal item is replaced; if either side is wrapped, both stay; plain items that are not disjoint merge
+-- 01 m5.2, m5.3, m5.4: an equal item is replaced; if either side is wrapped, both stay; plain items that are not disjoint merge
 unfoldable pub fateOf : List ℕ → ItemWords → ItemWords → Fate
 fateOf pool new it =
     cond (sameItem pool new it) Replaced
@@ -32,12 +32,12 @@ keepBy Replaced it its = its
 keepBy Stays it its = it ∷ its
 keepBy Merges it its = its
 
--- the items that stay
+-- 01 m5.2: the items that stay
 unfoldable pub staying : List ℕ → ItemWords → List ItemWords → List ItemWords
 staying pool new [] = []
 staying pool new (it ∷ its) = keepBy (fateOf pool new it) it (staying pool new its)
 
--- the same, an item at a time: whether it stays, and how many that are
+-- 01 m5.2: the same, an item at a time: whether it stays, and how many that are
 abbrev pub isStaying : Fate → Bool
 isStaying Replaced = false
 isStaying Stays = true
@@ -48,7 +48,7 @@ oneIf b = cond b 1 0
 
 -- ---- the result
 
--- 01 m5, reading A9: to the smaller start and the larger end; on a tie, bytes and kind, the new item's offset stays
+-- 01 m5.4, reading A9: to the smaller start and the larger end; on a tie, bytes and kind, the new item's offset stays
 
 abbrev pub smallerStart : List ℕ → RangeSetItem → RangeSetItem → RangeSetItem
 smallerStart pool new old = smaller (compareIn pool old new) old new
@@ -59,7 +59,7 @@ largerEnd pool new old = smaller (compareIn pool new old) old new
 abbrev pub hull : List ℕ → RangeSet → RangeSet → RangeSet
 hull pool new old = fromTo (smallerStart pool (new .start) (old .start)) (largerEnd pool (new .end) (old .end))
 
--- 01 m5: converted; two plain items that merge always make one
+-- 01 m5.4: converted; two plain items that merge always make one
 abbrev pub plainItem : ItemWords → MaybeItem → ItemWords
 plainItem it NoItem = it
 plainItem it (Item q) = wordsOf 0 q
@@ -72,7 +72,7 @@ mergeBy pool Replaced cur it = cur
 mergeBy pool Stays cur it = cur
 mergeBy pool Merges cur it = merged pool cur it
 
--- 01 m5, reading A8: the new item with all that merge with it, in the list's order; where none does it stays as it is
+-- 01 m5.4, reading A8: the new item with all that merge with it, in the list's order; where none does it stays as it is
 unfoldable pub mergedWith : List ℕ → ItemWords → ItemWords → List ItemWords → ItemWords
 mergedWith pool new cur [] = cur
 mergedWith pool new cur (it ∷ its) = mergedWith pool new (mergeBy pool (fateOf pool new it) cur it) its

@@ -1,5 +1,5 @@
--- What the pass over a list goes by, an item at a time: the quick test of the order. proofs/Seen.antt says that it finds what Order.antt
--- and Refusals.antt define. Assumes nothing.
+-- What the pass over a list goes by, an item at a time: the quick test of the order. proofs/Seen.antt says that it finds what Order.antt and
+-- Refusals.antt define. It serves 01 m5.1. Assumes nothing.
 use Prim.Native.Nat.{ℕ, zero, suc, _-_}
 use mathlib.Core.List.{List, [], _∷_}
 use mathlib.Core.Bool.{Bool, true, false, cond, not, _||_, _&&_}

@@ -9,11 +9,11 @@ use Rattle.query_item.specs.Items.{itemSize, itemsFrom}
 use Rattle.item_check.specs.Checks.{refused, Verdict, accepted, andThen, mostItems, poolVerdict, firstBad, faultAt, uprightFault}
 use Rattle.insert_order.specs.Order.{clashes}
 
--- 01 no. 1, reading A10: the old count beyond its buffer, or over 2,048; reading A3: spare words are never refused
+-- 01 no.1, refusal.5, reading A10: the old count beyond its buffer, or over 2,048; reading A3: spare words are never refused
 abbrev pub bufferVerdict : List ℕ → ℕ → Verdict
 bufferVerdict ws count = cond (ltb (length ws / itemSize) count || ltb mostItems count) (refused 1 0 0) accepted
 
--- 01 no. 4: the first index that breaks a rule, alone or with an earlier one
+-- 01 no.4, refusal.4: the first index that breaks a rule, alone or with an earlier one
 unfoldable pub firstClash : List ℕ → ℕ → List ItemWords → List ItemWords → Verdict
 firstClash pool i earlier [] = accepted
 firstClash pool i earlier (it ∷ its) = cond (clashes pool earlier it) (refused 4 0 i) (firstClash pool (suc i) (it ∷ earlier) its)
@@ -21,7 +21,7 @@ firstClash pool i earlier (it ∷ its) = cond (clashes pool earlier it) (refused
 abbrev pub orderVerdict : List ℕ → List ItemWords → Verdict
 orderVerdict pool its = firstClash pool 0 [] its
 
--- 01 Order: the pool, the list's shape, its items one by one, 4, then the new item, which is side 1 and index 0
+-- 01 refusal.6, refusal.7: the pool, the list's shape, its items one by one, 4, then the new item, which is side 1 and index 0
 
 abbrev pub orderedVerdict : List ℕ → List ItemWords → Verdict
 orderedVerdict pool its = andThen (firstBad pool 0 0 its) (orderVerdict pool its)

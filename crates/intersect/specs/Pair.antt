@@ -17,15 +17,15 @@ use Rattle.intersect.specs.declared.QueryItemIntersectionResult.{QueryIt
 use Rattle.intersect.specs.declared.PairAnswer.{PairAnswer}
 use Rattle.intersect.specs.declared.PairAnswer.the-variants as pair
 
--- a's end is below b's start
+-- 01 m3.1: a's end is below b's start
 abbrev pub before : List ℕ → RangeSet → RangeSet → Bool
 before pool a b = isLess (compareIn pool (a .end) (b .start))
 
--- 01 m3: disjoint when one end is below the other start
+-- 01 m3.1: disjoint when one end is below the other start
 abbrev pub disjoint : List ℕ → RangeSet → RangeSet → Bool
 disjoint pool a b = before pool a b || before pool b a
 
--- 01 m3: from the larger start to the smaller end; on equal boundaries the start takes our offset, the end theirs
+-- 01 m3.2, m3.5: from the larger start to the smaller end; on equal boundaries the start takes our offset, the end theirs
 
 abbrev pub largerStart : List ℕ → RangeSet → RangeSet → RangeSetItem
 largerStart pool a b = smaller (compareIn pool (a .start) (b .start)) (b .start) (a .start)
@@ -36,11 +36,11 @@ smallerEnd pool a b = smaller (compareIn pool (a .end) (b .end)) (a .end) (b .en
 abbrev pub overlap : List ℕ → RangeSet → RangeSet → RangeSet
 overlap pool a b = fromTo (largerStart pool a b) (smallerEnd pool a b)
 
--- 01 m3: nothing is shared where the two are disjoint, else the overlap
+-- 01 m3.1, m3.2: nothing is shared where the two are disjoint, else the overlap
 unfoldable pub meetSets : List ℕ → RangeSet → RangeSet → List RangeSet
 meetSets pool a b = cond (disjoint pool a b) [] (overlap pool a b ∷ [])
 
--- 01 m3: a's left leftover: the whole where a stands before b, none where it stands past b, else from the smaller start, if that is
+-- 01 m3.1, m3.3: a's left leftover: the whole where a stands before b, none where it stands past b, else from the smaller start, if that is
 -- a's, to the larger start inverted
 abbrev pub leftPart : List ℕ → RangeSet → RangeSet → List RangeSet
 leftPart pool a b = cond (isLess (compareIn pool (a .start) (b .start))) (fromTo (a .start) (invertOf (b .start) false) ∷ []) []
@@ -48,7 +48,7 @@ leftPart pool a b = cond (isLess (compareIn pool (a .start) (b .start))) (fromTo
 unfoldable pub leftOver : List ℕ → RangeSet → RangeSet → List RangeSet
 leftOver pool a b = cond (before pool a b) (a ∷ []) (cond (before pool b a) [] (leftPart pool a b))
 
--- 01 m3: a's right leftover: the whole where a stands past b, none where it stands before b, else from the smaller end inverted to the
+-- 01 m3.1, m3.4: a's right leftover: the whole where a stands past b, none where it stands before b, else from the smaller end inverted to the
 -- larger end, if that is a's
 abbrev pub rightPart : List ℕ → RangeSet → RangeSet → List RangeSet
 rightPart pool a b = cond (isLess (compareIn pool (b .end) (a .end))) (fromTo (invertOf (b .end) true) (a .end) ∷ []) []
@@ -58,7 +58,7 @@ rightOver pool a b = cond (before pool a b) [] (cond (before pool b a) (a ∷ []
 
 -- ---- converted
 
--- what may be missing, as a list of at most one
+-- 01 change.2: what may be missing, as a list of at most one
 
 abbrev pub asSets : MaybeSet → List RangeSet
 asSets NoSet = []
@@ -68,12 +68,12 @@ abbrev pub asItems : MaybeItem → List QueryItem
 asItems NoItem = []
 asItems (Item q) = q ∷ []
 
--- the first of a list, converted
+-- 01 m3.6: the first of a list, converted
 abbrev pub converted : List ℕ → List RangeSet → MaybeItem
 converted pool [] = NoItem
 converted pool (s ∷ S) = toQueryItem pool s
 
--- 01 m3: shared part and leftovers, whole ones too, are converted items; theirs are ours with sides exchanged
+-- 01 m3.6: shared part and leftovers, whole ones too, are converted items; theirs are ours with sides exchanged
 abbrev pub intersection : List ℕ → RangeSet → RangeSet → QueryItemIntersectionResult
 intersection pool a b =
     record {
@@ -84,7 +84,7 @@ intersection pool a b =
       «theirs_right» = converted pool (rightOver pool b a);
     }
 
--- ---- the call on two items: the pool, then 1, 2, 3 of ours (side 0), then of theirs (side 1); wrappers are read through
+-- ---- the call on two items: the pool, then 1, 2, 3 of ours (side 0), then of theirs (side 1); wrappers are read through (01 refusal.6, m3.7)
 
 abbrev pub pairOf : PairAnswer → Answer QueryItemIntersectionResult
 pairOf (pair.Pair p) = answered p

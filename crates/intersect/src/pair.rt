@@ -21,7 +21,7 @@ use query_item::boundary::compare_in;
 use query_item::boundary::invert_in;
 use query_item::boundary::is_less;
 
-// What two items share, and what is left over of each.
+// What two items share, and what is left over of each (01 m3.1, m3.2, m3.6).
 pub fn intersect_items(pool: &[u8], ours: ItemWords, theirs: ItemWords) -> PairAnswer
     ensures { λ r. ⌜ pairOf r ≡ pairAnswer (now (pool .entry)) ours theirs ⌝ }
 {

@@ -1,5 +1,5 @@
--- What demand 3 speaks of: the lists as words, the keys that a list holds, and items that are the same by kind and key bytes.
--- Definitions only. Assumes nothing.
+-- What demand 3 speaks of: the lists as words, the keys that a list holds, and items that are the same by kind and key bytes. Definitions only.
+-- It serves 01 demand.3, tight.7. Assumes nothing.
 use Prim.Native.Nat.{ℕ, _≤_}
 use mathlib.Core.Path.{_≡_}
 use mathlib.Core.Bool.{Bool}

@@ -15,39 +15,39 @@ use Rattle.intersect_many.specs.declared.ManyAnswer.{ManyAnswer}
 use Rattle.intersect_many.specs.declared.ManyAnswer.the-variants as many
 use Rattle.intersect.specs.Pair.{meetSets, leftOver, rightOver, asItems}
 
--- the ranges of a list's items, in order; wrappers are read through
+-- 01 m3.7: the ranges of a list's items, in order; wrappers are read through
 abbrev pub setsOf : List ℕ → List RangeSet
 setsOf ws = map rangeOf (itemsOf ws)
 
--- 01 m4: all output is converted
+-- 01 m4.4: all output is converted
 unfoldable pub convertAll : List ℕ → List RangeSet → List QueryItem
 convertAll pool [] = []
 convertAll pool (s ∷ S) = asItems (toQueryItem pool s) ++ convertAll pool S
 
--- 01 m4: shared: over ours in order, then theirs in order, each pair's shared item
+-- 01 m4.1: shared: over ours in order, then theirs in order, each pair's shared item
 unfoldable pub sharedItems : List ℕ → List ℕ → List ℕ → List QueryItem
 sharedItems pool ours theirs = convertAll pool (sharedOf (meetSets pool) (setsOf ours) (setsOf theirs))
 
--- one of ours with one of theirs removed: the pair's leftovers of ours
+-- 01 m4.2: one of ours with one of theirs removed: the pair's leftovers of ours
 abbrev pub cutSets : List ℕ → RangeSet → RangeSet → List RangeSet
 cutSets pool a b = leftOver pool a b ++ rightOver pool a b
 
--- 01 m4: ours-only: each of our items with all of theirs removed, pieces ascending; theirs-only: with sides exchanged.
+-- 01 m4.2, m4.3: ours-only: each of our items with all of theirs removed, pieces ascending; theirs-only: with sides exchanged.
 -- Reading A26: an item that is cut several times is cut as boundaries, and converted once at the end
 unfoldable pub onlyItems : List ℕ → List ℕ → List ℕ → List QueryItem
 onlyItems pool ours theirs = convertAll pool (withoutOf (cutSets pool) (setsOf ours) (setsOf theirs))
 
--- ---- as words
+-- ---- as words (01 change.1)
 
 unfoldable pub wordsAll : List QueryItem → List ℕ
 wordsAll [] = []
 wordsAll (q ∷ Q) = flat (wordsOf 0 q) ++ wordsAll Q
 
--- 01 m4: words past the written items keep their bytes
+-- 01 m4.5: words past the written items keep their bytes
 abbrev pub laidOver : List ℕ → List QueryItem → List ℕ
 laidOver out Q = wordsAll Q ++ drop (length (wordsAll Q)) out
 
--- ---- the call: the pool, ours entirely, theirs entirely, then the room of the three lists, whole items
+-- ---- the call: the pool, ours entirely, theirs entirely, then the room of the three lists, whole items (01 refusal.6)
 
 abbrev pub manyOf : ManyAnswer → Answer ManyCounts
 manyOf (many.Counts c) = answered c
@@ -59,7 +59,7 @@ bothVerdict pool ours theirs = andThen (listVerdict pool ours 0) (listVerdict po
 abbrev pub listsVerdict : List ℕ → List ℕ → List ℕ → Verdict
 listsVerdict pool ours theirs = andThen (poolVerdict pool) (bothVerdict pool ours theirs)
 
--- more items than an output has room for
+-- 01 no.6: more items than an output has room for
 abbrev pub passes : ℕ → List ℕ → Bool
 passes count out = ltb (length out / itemSize) count
 
@@ -85,7 +85,7 @@ abbrev pub manyAnswer : List ℕ → List ℕ → List ℕ → List ℕ → List
 manyAnswer pool ours theirs outShared outOurs outTheirs =
     andThen (listsVerdict pool ours theirs) (roomAnswer pool ours theirs outShared outOurs outTheirs)
 
--- an output afterwards: items laid over it where the call answers; a refusal leaves it as it was
+-- 01 demand.1: an output afterwards: items laid over it where the call answers; a refusal leaves it as it was
 abbrev pub written : {A : Type 0} → Answer A → List QueryItem → List ℕ → List ℕ
 written (answered c) Q out = laidOver out Q
 written (refused n s i) Q out = out

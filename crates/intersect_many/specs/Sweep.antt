@@ -1,4 +1,4 @@
--- What the one pass over both lists goes by. No promise of a public call cites this. Assumes nothing.
+-- What the one pass over both lists goes by. No promise of a public call cites this. It serves 01 m4.1, m4.2, m4.3. Assumes nothing.
 use Prim.Native.Nat.{ℕ, suc, _+_, _-_, _/_, _≤_}
 use mathlib.Core.Path.{_≡_}
 use mathlib.Core.List.{List, [], _∷_, map}

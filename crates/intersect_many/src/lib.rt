@@ -53,7 +53,8 @@ enum Stand {
 }
 
 // What two lists share, what ours keeps without theirs, and what theirs keeps without ours, written to the front of three lists, with their
-// counts. No more than one item a turn for each, and each turn moves an index: at most as many items as both lists have.
+// counts. No more than one item a turn for each, and each turn moves an index: at most as many items as both lists have (01 m4.1, m4.2,
+// m4.3, demand.1).
 pub fn intersect_many_ordered(
     pool: &[u8],
     ours: &[u32],

@@ -6,53 +6,53 @@ use mathlib.Core.List.{List, [], _∷_, _++_}
 use lib.Dec.{leb, ltb}
 use Rattle.intervals.specs.Lists.{sharedOf, withoutOf}
 
--- 01 m6: pairs, half-open: (s, e) has the numbers from s on, below e
+-- 01 m6.4: pairs, half-open: (s, e) has the numbers from s on, below e
 abbrev pub Interval : Type 0
 Interval = ℕ × ℕ
 
--- each interval is nonempty and starts at or after the end of the one before it, the first at or after lo
+-- 01 keys.10: each interval is nonempty and starts at or after the end of the one before it, the first at or after lo
 abbrev pub Above : ℕ → List Interval → Type 0
 Above lo [] = Unit {0}
 Above lo (a ∷ A) = (lo ≤ a .0) × (a .0 < a .1) × Above (a .1) A
 
--- 01 Boundary order: strict: each end below the next start. A half-open end is past the last number, so that two may touch
+-- 01 keys.10: strict: each end below the next start. A half-open end is past the last number, so that two may touch
 abbrev pub Strict : List Interval → Type 0
 Strict A = Above 0 A
 
--- each interval is nonempty and starts after the end of the one before it, the first at or after lo
+-- 01 m6.4: each interval is nonempty and starts after the end of the one before it, the first at or after lo
 abbrev pub Apart : ℕ → List Interval → Type 0
 Apart lo [] = Unit {0}
 Apart lo (a ∷ A) = (lo ≤ a .0) × (a .0 < a .1) × Apart (suc (a .1)) A
 
--- 01 m6: canonical: half-open, ascending, nonempty, each end below the next start, so that no two touch
+-- 01 m6.4: canonical: half-open, ascending, nonempty, each end below the next start, so that no two touch
 abbrev pub Canonical : List Interval → Type 0
 Canonical A = Apart 0 A
 
--- 01 m6: half-open: x lies in the interval from s to e when s ≤ x < e
+-- 01 m6.4: half-open: x lies in the interval from s to e when s ≤ x < e
 unfoldable pub inside : ℕ → ℕ → ℕ → Bool
 inside s e x = leb s x && ltb x e
 
--- 01 m6: covered: x lies in some interval of the list
+-- 01 m6.3: covered: x lies in some interval of the list
 unfoldable pub holds : List Interval → ℕ → Bool
 holds [] x = false
 holds (a ∷ A) x = inside (a .0) (a .1) x || holds A x
 
--- 01 m6: nonempty: the interval from s to e, or nothing where that has no number
+-- 01 m6.4: nonempty: the interval from s to e, or nothing where that has no number
 unfoldable pub piece : ℕ → ℕ → List Interval
 piece s e = cond (ltb s e) ((s, e) ∷ []) []
 
--- 01 m3: shared runs from the larger start to the smaller end
+-- 01 m3.2: shared runs from the larger start to the smaller end
 unfoldable pub meet : Interval → Interval → List Interval
 meet a b = piece (max (a .0) (b .0)) (min (a .1) (b .1))
 
--- 01 m4: what two lists share
+-- 01 m4.1: what two lists share
 abbrev pub shared : List Interval → List Interval → List Interval
 shared = sharedOf meet
 
--- 01 m3: our leftovers: left, below their start, and right, from their end on; one whole leftover where the two are disjoint
+-- 01 m3.1, m3.3, m3.4: our leftovers: left, below their start, and right, from their end on; one whole leftover where the two are disjoint
 unfoldable pub cut : Interval → Interval → List Interval
 cut a b = piece (a .0) (min (a .1) (b .0)) ++ piece (max (a .0) (b .1)) (a .1)
 
--- 01 m4: what a list keeps without another
+-- 01 m4.2: what a list keeps without another
 abbrev pub without : List Interval → List Interval → List Interval
 without = withoutOf cut

@@ -2,22 +2,22 @@
 -- The things are of any type. Definitions only. Assumes nothing.
 use mathlib.Core.List.{List, [], _∷_, _++_}
 
--- 01 m4: one of ours with theirs in order, what each pair shares
+-- 01 m4.1: one of ours with theirs in order, what each pair shares
 unfoldable pub meetsOf : {X Y : Type 0} → (X → X → List Y) → X → List X → List Y
 meetsOf meet a [] = []
 meetsOf meet a (b ∷ B) = meet a b ++ meetsOf meet a B
 
--- 01 m4: shared: over ours in order, then theirs in order, what each pair shares
+-- 01 m4.1: shared: over ours in order, then theirs in order, what each pair shares
 unfoldable pub sharedOf : {X Y : Type 0} → (X → X → List Y) → List X → List X → List Y
 sharedOf meet [] B = []
 sharedOf meet (a ∷ A) B = meetsOf meet a B ++ sharedOf meet A B
 
--- 01 m4: each of ours with one of theirs removed, pieces in order
+-- 01 m4.2: each of ours with one of theirs removed, pieces in order
 unfoldable pub cutsOf : {X : Type 0} → (X → X → List X) → List X → X → List X
 cutsOf cut [] b = []
 cutsOf cut (a ∷ A) b = cut a b ++ cutsOf cut A b
 
--- 01 m4: ours-only: each of ours with all of theirs removed, pieces ascending; theirs-only is this with sides exchanged
+-- 01 m4.2, m4.3: ours-only: each of ours with all of theirs removed, pieces ascending; theirs-only is this with sides exchanged
 unfoldable pub withoutOf : {X : Type 0} → (X → X → List X) → List X → List X → List X
 withoutOf cut A [] = A
 withoutOf cut A (b ∷ B) = withoutOf cut (cutsOf cut A b) B

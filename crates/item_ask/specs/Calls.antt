@@ -21,7 +21,7 @@ use Rattle.item_ask.specs.declared.ItemAnswer.{ItemAnswer}
 use Rattle.item_ask.specs.declared.ItemAnswer.the-variants as item
 use Rattle.item_ask.specs.Asked as asked
 
--- ---- the paper's numbers and values for each case of an answer
+-- ---- the paper's numbers and values for each case of an answer (01 form.11)
 
 abbrev pub containmentOf : Containment → Answer KeyContainmentResult
 containmentOf (containment.Contains c) = answered c
@@ -40,7 +40,7 @@ itemAnswerOf item.NoItem = answered NoItem
 itemAnswerOf (item.Item q) = answered (Item q)
 itemAnswerOf (item.Refused r) = refusedAs r
 
--- ---- the calls; reading A22: the pool, then 1 and 2 of the item
+-- ---- the calls; reading A22: the pool, then 1 and 2 of the item (01 refusal.3, refusal.6, m2.6)
 
 abbrev pub toRangeSetAnswer : List ℕ → ItemWords → Answer RangeSet
 toRangeSetAnswer pool it = andThen (singleVerdict pool it) (answered (rangeOf it))
@@ -51,6 +51,6 @@ containmentAnswer pool it k = andThen (singleVerdict pool it) (answered (asked.c
 abbrev pub directionAnswer : List ℕ → ItemWords → List ℕ → Direction → Answer Bool
 directionAnswer pool it k d = andThen (singleVerdict pool it) (answered (asked.inDirection pool (queryItem it) k d))
 
--- reading A23: the pool, then the keys of both boundaries, and "no item" only after these
+-- 01 keys.12, reading A23: the pool, then the keys of both boundaries, and "no item" only after these
 abbrev pub toQueryItemAnswer : List ℕ → RangeSet → Answer MaybeItem
 toQueryItemAnswer pool s = andThen (setVerdict pool s) (answered (toQueryItem pool s))

@@ -42,7 +42,7 @@ pub enum InDirection {
     Refused(Refusal),
 }
 
-// The two boundaries of an item.
+// The two boundaries of an item (01 m2.1, m2.6).
 pub fn to_range_set(pool: &[u8], item: ItemWords) -> RangeAnswer
     ensures { λ r. ⌜ rangeAnswerOf r ≡ toRangeSetAnswer (now (pool .entry)) item ⌝ }
 {
@@ -52,7 +52,7 @@ pub fn to_range_set(pool: &[u8], item: ItemWords) -> RangeAnswer
     }
 }
 
-// The item of two boundaries, or that there is none.
+// The item of two boundaries, or that there is none (01 m2.1, keys.12).
 pub fn to_query_item(pool: &[u8], set: RangeSet) -> ItemAnswer
     ensures { λ r. ⌜ itemAnswerOf r ≡ toQueryItemAnswer (now (pool .entry)) set ⌝ }
 {
@@ -65,7 +65,7 @@ pub fn to_query_item(pool: &[u8], set: RangeSet) -> ItemAnswer
     }
 }
 
-// Whether an item holds a key, and whether the key sits on an exclusive bound.
+// Whether an item holds a key, and whether the key sits on an exclusive bound (01 m2.3, m2.6).
 pub fn could_contain_key<'a>(pool: &'a [u8], item: ItemWords, key: &'a [u8]) -> Containment
     ensures { λ r. ⌜ containmentOf r ≡ containmentAnswer (now (pool .entry)) item (now (key .entry)) ⌝ }
 {
@@ -75,7 +75,7 @@ pub fn could_contain_key<'a>(pool: &'a [u8], item: ItemWords, key: &'a [u8]) -> 
     }
 }
 
-// Whether keys that an item holds may stand in a direction of a key. No means that none does.
+// Whether keys that an item holds may stand in a direction of a key. No means that none does (01 m2.4, m2.5).
 pub fn could_have_items_in_direction<'a>(
     pool: &'a [u8],
     item: ItemWords,

@@ -17,7 +17,7 @@ use Rattle.item_check.specs.declared.Checked.the-variants as checked
 
 -- ---- answers
 
--- 01 Refusal numbers: a call answers, or refuses with a number, a side (0 ours, 1 theirs) and an index
+-- 01 refusal.1: a call answers, or refuses with a number, a side (0 ours, 1 theirs) and an index
 pub data Answer (A : Type 0) : Type 0 where
   answered : A → Answer A
   refused : ℕ → ℕ → ℕ → Answer A
@@ -28,12 +28,12 @@ Verdict = Answer (Unit {0})
 abbrev pub accepted : Verdict
 accepted = answered tt
 
--- 01 Order: an earlier check's refusal decides
+-- 01 refusal.6: an earlier check's refusal decides
 abbrev pub andThen : {A : Type 0} → Verdict → Answer A → Answer A
 andThen (answered u) next = next
 andThen (refused number side index) next = refused number side index
 
--- the paper's numbers for each case of a check's answer
+-- 01 form.11: the paper's numbers for each case of a check's answer
 
 abbrev pub refusedAs : {A : Type 0} → Refusal → Answer A
 refusedAs r = refused (r .number) (r .side) (r .index)
@@ -44,7 +44,7 @@ verdictOf (checked.Refused r) = refusedAs r
 
 -- ---- limits
 
--- 01 Refusal numbers, 1 and 2
+-- 01 no.1, no.2: how many items, bytes of a pool and bytes of a key at most
 abbrev pub mostItems : ℕ
 mostItems = 2048
 
@@ -56,19 +56,19 @@ mostKey = 255
 
 -- ---- an item
 
--- of the ten codes RangeFull (3), RangeTo (5) and RangeToInclusive (6) have no start
+-- 01 keys.5: of the ten codes RangeFull (3), RangeTo (5) and RangeToInclusive (6) have no start
 abbrev pub hasStart : ℕ → Bool
 hasStart c = not (eqb c 3 || eqb c 5 || eqb c 6)
 
--- Key (0), RangeFull (3), RangeFrom (4) and RangeAfter (7) have no end
+-- 01 keys.4, keys.5: Key (0), RangeFull (3), RangeFrom (4) and RangeAfter (7) have no end
 abbrev pub hasEnd : ℕ → Bool
 hasEnd c = not (eqb c 0 || eqb c 3 || eqb c 4 || eqb c 7)
 
--- a key's two words are not both 0
+-- 01 keys.5: a key's two words are not both 0
 abbrev pub written : KeyAt → Bool
 written k = not (eqb (k .offset) 0) || not (eqb (k .length) 0)
 
--- 01 no. 1: unknown code or wrapper, absent key not 0
+-- 01 no.1: unknown code or wrapper, absent key not 0
 abbrev pub malformed : ItemWords → Bool
 malformed it =
     ltb 9 (it .code)
@@ -76,14 +76,14 @@ malformed it =
     || (not (hasStart (it .code)) && written (it .start))
     || (not (hasEnd (it .code)) && written (it .end))
 
--- 01 no. 2: a key longer than 255 bytes or reaching past the pool; reading A2: past it also where its length is 0
+-- 01 no.2: a key longer than 255 bytes or reaching past the pool; reading A2: past it also where its length is 0
 abbrev pub keyOut : List ℕ → KeyAt → Bool
 keyOut pool k = ltb mostKey (k .length) || ltb (length pool) (k .offset + k .length)
 
 abbrev pub outside : List ℕ → ItemWords → Bool
 outside pool it = (hasStart (it .code) && keyOut pool (it .start)) || (hasEnd (it .code) && keyOut pool (it .end))
 
--- the number of what is wrong with an item, 0 where nothing is: 1 before 2, and 3 where the item has to be upright
+-- 01 no.3, refusal.6: the number of what is wrong with an item, 0 where nothing is: 1 before 2, and 3 where the item has to be upright
 abbrev pub itemFault : List ℕ → ItemWords → ℕ
 itemFault pool it = cond (malformed it) 1 (cond (outside pool it) 2 0)
 
@@ -97,23 +97,23 @@ abbrev pub faultAt : ℕ → ℕ → ℕ → Verdict
 faultAt zero side index = accepted
 faultAt (suc f) side index = refused (suc f) side index
 
--- 01 Order: the pool's size first, 0 and 0
+-- 01 refusal.2, refusal.6: the pool's size first, 0 and 0
 abbrev pub poolVerdict : List ℕ → Verdict
 poolVerdict pool = cond (ltb mostPool (length pool)) (refused 1 0 0) accepted
 
 -- ---- a list
 
--- the shape of a list gives its side and index 0
+-- 01 no.1, refusal.2: the shape of a list gives its side and index 0
 abbrev pub shapeVerdict : List ℕ → ℕ → Verdict
 shapeVerdict ws side =
     cond (not (eqb (length ws % itemSize) 0) || ltb mostItems (length ws / itemSize)) (refused 1 side 0) accepted
 
--- 01 Order: item by item 1, 2, 3, the first bad item deciding
+-- 01 refusal.6: item by item 1, 2, 3, the first bad item deciding
 unfoldable pub firstBad : List ℕ → ℕ → ℕ → List ItemWords → Verdict
 firstBad pool side i [] = accepted
 firstBad pool side i (it ∷ its) = andThen (faultAt (uprightFault pool it) side i) (firstBad pool side (suc i) its)
 
--- 01 Boundary order: a list is strict when each item's end is below the next item's start; empty lists are strict.
+-- 01 keys.10, keys.11, no.4, refusal.4: a list is strict when each item's end is below the next item's start; empty lists are strict.
 -- 4 has the index of the first item that breaks this with the one before it, which ends at e
 
 unfoldable pub firstBreak : List ℕ → ℕ → ℕ → RangeSetItem → List ItemWords → Verdict
@@ -125,7 +125,7 @@ unfoldable pub strictVerdict : List ℕ → ℕ → List ItemWords → Verdict
 strictVerdict pool side [] = accepted
 strictVerdict pool side (it ∷ its) = firstBreak pool side 1 (rangeOf it .end) its
 
--- 01 Order: for each list its shape, its items, then 4
+-- 01 refusal.6: for each list its shape, its items, then 4
 abbrev pub itemsOf : List ℕ → List ItemWords
 itemsOf ws = itemsFrom ws 0 (length ws / itemSize)
 
@@ -135,18 +135,18 @@ wholeVerdict pool ws side = andThen (firstBad pool side 0 (itemsOf ws)) (strictV
 abbrev pub listVerdict : List ℕ → List ℕ → ℕ → Verdict
 listVerdict pool ws side = andThen (shapeVerdict ws side) (wholeVerdict pool ws side)
 
--- ---- a single item; reading A22: the pool, then 1 and 2 of the item, side 0 and index 0
+-- ---- a single item; reading A22: the pool, then 1 and 2 of the item, side 0 and index 0 (01 refusal.3)
 
 abbrev pub singleVerdict : List ℕ → ItemWords → Verdict
 singleVerdict pool it = andThen (poolVerdict pool) (faultAt (itemFault pool it) 0 0)
 
--- reading A23: the pool, then the keys of both boundaries, and "no item" only after these
+-- 01 no.2, reading A23: the pool, then the keys of both boundaries, and "no item" only after these
 abbrev pub keysVerdict : List ℕ → RangeSet → Verdict
 keysVerdict pool s = cond (keyOut pool (keyOf (s .start)) || keyOut pool (keyOf (s .end))) (refused 2 0 0) accepted
 
 abbrev pub setVerdict : List ℕ → RangeSet → Verdict
 setVerdict pool s = andThen (poolVerdict pool) (keysVerdict pool s)
 
--- a list for the algebra: the pool, then the list
+-- 01 refusal.6: a list for the algebra: the pool, then the list
 abbrev pub checkVerdict : List ℕ → List ℕ → ℕ → Verdict
 checkVerdict pool ws side = andThen (poolVerdict pool) (listVerdict pool ws side)

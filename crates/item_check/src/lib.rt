@@ -35,7 +35,7 @@ pub const MOST_POOL: usize = 65536;
 
 pub const MOST_KEY: u32 = 255;
 
-// Whether a list can be used in the algebra: the pool, the list's shape, its items, and that it is strict.
+// Whether a list can be used in the algebra: the pool, the list's shape, its items, and that it is strict (01 no.1, no.2, no.3, no.4).
 pub fn check_list(pool: &[u8], words: &[u32], side: u32) -> Checked
     ensures { λ r. ⌜ verdictOf r ≡ checkVerdict (now (pool .entry)) (now (words .entry)) side ⌝ }
 {

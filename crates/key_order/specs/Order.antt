@@ -6,36 +6,36 @@ use lib.Dec.{ltb}
 use Rattle.key_order.specs.declared.Ordering.{Ordering}
 use Rattle.key_order.specs.declared.Ordering.the-variants.{Less, Equal, Greater}
 
--- Less where the first test holds, Greater where only the second does, else Equal
+-- 01 keys.1: Less where the first test holds, Greater where only the second does, else Equal
 abbrev pub byTests : Bool → Bool → Ordering
 byTests true t = Less
 byTests false true = Greater
 byTests false false = Equal
 
--- how one byte, or any number, stands to another
+-- 01 keys.1: how one byte, or any number, stands to another
 unfoldable pub compareNumbers : ℕ → ℕ → Ordering
 compareNumbers m n = byTests (ltb m n) (ltb n m)
 
--- the first answer, or the second where the first is Equal
+-- 01 keys.1: the first answer, or the second where the first is Equal
 abbrev pub thenBy : Ordering → Ordering → Ordering
 thenBy Less o = Less
 thenBy Equal o = o
 thenBy Greater o = Greater
 
--- 01 Keys: any finite byte string, the empty one included, ordered byte by byte, a proper prefix first
+-- 01 keys.1, m1.1: any finite byte string, the empty one included, ordered byte by byte, a proper prefix first
 unfoldable pub compareKeys : List ℕ → List ℕ → Ordering
 compareKeys [] [] = Equal
 compareKeys [] (y ∷ l) = Less
 compareKeys (x ∷ k) [] = Greater
 compareKeys (x ∷ k) (y ∷ l) = thenBy (compareNumbers x y) (compareKeys k l)
 
--- 01 m1: of two the smaller; on a tie the second
+-- 01 m1.3: of two the smaller; on a tie the second
 abbrev pub smaller {ℓ} : {A : Type ℓ} → Ordering → A → A → A
 smaller Less a b = a
 smaller Equal a b = b
 smaller Greater a b = b
 
--- tests of an answer: less, less or equal, equal
+-- 01 m1.1: tests of an answer: less, less or equal, equal
 
 abbrev pub isLess : Ordering → Bool
 isLess Less = true

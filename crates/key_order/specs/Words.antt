@@ -3,7 +3,7 @@ use Prim.Native.Nat.{ℕ, _+_, _*_, _^_}
 use mathlib.Core.List.{List, [], _∷_}
 use lib.ListN.{length}
 
--- big-endian: the number of a list of bytes, the first byte the greatest
+-- 01 m6.1: big-endian: the number of a list of bytes, the first byte the greatest
 unfoldable pub be : List ℕ → ℕ
 be [] = 0
 be (b ∷ bs) = b * 256 ^ length bs + be bs

@@ -13,7 +13,7 @@ pub enum Ordering {
     Greater,
 }
 
-// How a stands to b: eight bytes a turn while both have them, then a byte a turn.
+// How a stands to b: eight bytes a turn while both have them, then a byte a turn (01 m1.1, m1.2).
 pub fn compare(a: &[u8], b: &[u8]) -> Ordering
     ensures { λ r. ⌜ r ≡ compareKeys (now (a .entry)) (now (b .entry)) ⌝ }
 {
@@ -96,7 +96,7 @@ fn compare_from(a: &[u8], b: &[u8], from: usize) -> Ordering
     Ordering::Equal
 }
 
-// The smaller of a and b as the part of its pool that was lent, and b on a tie. One lifetime serves both pools.
+// The smaller of a and b as the part of its pool that was lent, and b on a tie. One lifetime serves both pools (01 m1.3, form.6).
 pub fn order_items<'a>(a: &'a [u8], b: &'a [u8]) -> &'a [u8]
     ensures { λ r. ⌜ r ≡ smaller (compareKeys (now (a .entry)) (now (b .entry))) (a .entry) (b .entry) ⌝ }
 {

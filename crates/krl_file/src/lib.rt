@@ -34,7 +34,7 @@ pub const RECORD_SIZE: usize = 8;
 
 pub const MOST_FILE: usize = 65536;
 
-// The items of a file, written to the front of two lists, with the pool's length and their counts.
+// The items of a file, written to the front of two lists, with the pool's length and their counts (01 m7.1, m7.2).
 pub fn read_file(file: &[u8], ours: &mut [u32], theirs: &mut [u32]) -> FileAnswer
     ensures { λ r. ⌜ fileAnswerOf r ≡ fileAnswer (now (file .entry)) (now (ours .entry)) (now (theirs .entry)) ⌝ }
     ensures { λ _. ⌜ now (ours .exit) ≡ written (fileAnswer (now (file .entry)) (now (ours .entry)) (now (theirs .entry))) (oursOf (now (file .entry))) (now (ours .entry)) ⌝ }
@@ -50,7 +50,7 @@ pub fn read_file(file: &[u8], ours: &mut [u32], theirs: &mut [u32]) -> FileAnswe
     })
 }
 
-// The pool of a file: the part from HEAD_SIZE on, of the pool's length; of a file that ends before it does, what is there.
+// The pool of a file: the part from HEAD_SIZE on, of the pool's length; of a file that ends before it does, what is there (01 m7.1).
 pub fn pool_of(file: &[u8]) -> &[u8]
     ensures { λ r. ⌜ now r ≡ poolOf (now (file .entry)) ⌝ }
 {

@@ -26,17 +26,17 @@ use Rattle.lent_text.specs.Text.{decimal}
 use Rattle.krl_listing.specs.declared.Line.{Line}
 use Rattle.krl_listing.specs.declared.Line.the-variants.{Bytes, Refused}
 
--- 01 m7: every line ends in one line feed
+-- 01 m7.7: every line ends in one line feed
 abbrev pub lineFeed : List ℕ
 lineFeed = 10 ∷ []
 
 -- ---- keys
 
--- 01 m7: keys are upper-case hexadecimal
+-- 01 m7.4: keys are upper-case hexadecimal
 unfoldable pub hexDigit : ℕ → ℕ
 hexDigit d = cond (ltb d 10) (48 + d) (55 + d)
 
--- 01 m7: a byte is two digits, the higher first
+-- 01 m7.4: a byte is two digits, the higher first
 abbrev pub hexByte : ℕ → List ℕ
 hexByte b = hexDigit (b / 16) ∷ hexDigit (b % 16) ∷ []
 
@@ -44,12 +44,12 @@ unfoldable pub hexText : List ℕ → List ℕ
 hexText [] = []
 hexText (b ∷ k) = hexByte b ++ hexText k
 
--- 01 m7: an empty key is `-`; any other its bytes in order
+-- 01 m7.4: an empty key is `-`; any other its bytes in order
 unfoldable pub keyText : List ℕ → List ℕ
 keyText [] = 45 ∷ []
 keyText (b ∷ k) = hexText (b ∷ k)
 
--- 01 m7, the example: a space before each key, and before each number
+-- 01 m7.3, the example: a space before each key, and before each number
 
 abbrev pub spacedKey : List ℕ → KeyAt → List ℕ
 spacedKey pool k = 32 ∷ keyText (bytesOf pool k)
@@ -59,47 +59,47 @@ spacedNumber n = 32 ∷ decimal n
 
 -- ---- items, by their names in the table of 01
 
--- "Key"
+-- 01 item.0: "Key"
 abbrev pub keyWord : List ℕ
 keyWord = 75 ∷ 101 ∷ 121 ∷ []
 
--- "Range"
+-- 01 item.1: "Range"
 abbrev pub rangeWord : List ℕ
 rangeWord = 82 ∷ 97 ∷ 110 ∷ 103 ∷ 101 ∷ []
 
--- "RangeInclusive"
+-- 01 item.2: "RangeInclusive"
 abbrev pub rangeInclusiveWord : List ℕ
 rangeInclusiveWord = 82 ∷ 97 ∷ 110 ∷ 103 ∷ 101 ∷ 73 ∷ 110 ∷ 99 ∷ 108 ∷ 117 ∷ 115 ∷ 105 ∷ 118 ∷ 101 ∷ []
 
--- "RangeFull"
+-- 01 item.3: "RangeFull"
 abbrev pub rangeFullWord : List ℕ
 rangeFullWord = 82 ∷ 97 ∷ 110 ∷ 103 ∷ 101 ∷ 70 ∷ 117 ∷ 108 ∷ 108 ∷ []
 
--- "RangeFrom"
+-- 01 item.4: "RangeFrom"
 abbrev pub rangeFromWord : List ℕ
 rangeFromWord = 82 ∷ 97 ∷ 110 ∷ 103 ∷ 101 ∷ 70 ∷ 114 ∷ 111 ∷ 109 ∷ []
 
--- "RangeTo"
+-- 01 item.5: "RangeTo"
 abbrev pub rangeToWord : List ℕ
 rangeToWord = 82 ∷ 97 ∷ 110 ∷ 103 ∷ 101 ∷ 84 ∷ 111 ∷ []
 
--- "RangeToInclusive"
+-- 01 item.6: "RangeToInclusive"
 abbrev pub rangeToInclusiveWord : List ℕ
 rangeToInclusiveWord = 82 ∷ 97 ∷ 110 ∷ 103 ∷ 101 ∷ 84 ∷ 111 ∷ 73 ∷ 110 ∷ 99 ∷ 108 ∷ 117 ∷ 115 ∷ 105 ∷ 118 ∷ 101 ∷ []
 
--- "RangeAfter"
+-- 01 item.7: "RangeAfter"
 abbrev pub rangeAfterWord : List ℕ
 rangeAfterWord = 82 ∷ 97 ∷ 110 ∷ 103 ∷ 101 ∷ 65 ∷ 102 ∷ 116 ∷ 101 ∷ 114 ∷ []
 
--- "RangeAfterTo"
+-- 01 item.8: "RangeAfterTo"
 abbrev pub rangeAfterToWord : List ℕ
 rangeAfterToWord = 82 ∷ 97 ∷ 110 ∷ 103 ∷ 101 ∷ 65 ∷ 102 ∷ 116 ∷ 101 ∷ 114 ∷ 84 ∷ 111 ∷ []
 
--- "RangeAfterToInclusive"
+-- 01 item.9: "RangeAfterToInclusive"
 abbrev pub rangeAfterToInclusiveWord : List ℕ
 rangeAfterToInclusiveWord = 82 ∷ 97 ∷ 110 ∷ 103 ∷ 101 ∷ 65 ∷ 102 ∷ 116 ∷ 101 ∷ 114 ∷ 84 ∷ 111 ∷ 73 ∷ 110 ∷ 99 ∷ 108 ∷ 117 ∷ 115 ∷ 105 ∷ 118 ∷ 101 ∷ []
 
--- 01 m7, the example: an item is its name, and its keys behind it: none, one or two
+-- 01 m7.3, the example: an item is its name, and its keys behind it: none, one or two
 
 abbrev pub bareLine : List ℕ → List ℕ
 bareLine name = name ++ lineFeed
@@ -110,7 +110,7 @@ keyLine pool name a = name ++ (spacedKey pool a ++ lineFeed)
 abbrev pub keysLine : List ℕ → List ℕ → KeyAt → KeyAt → List ℕ
 keysLine pool name a b = name ++ (spacedKey pool a ++ (spacedKey pool b ++ lineFeed))
 
--- 01 Items: which keys each item has
+-- 01 keys.4: which keys each item has
 unfoldable pub itemLine : List ℕ → QueryItem → List ℕ
 itemLine pool (Key a) = keyLine pool keyWord a
 itemLine pool (Range a b) = keysLine pool rangeWord a b
@@ -123,7 +123,7 @@ itemLine pool (RangeAfter a) = keyLine pool rangeAfterWord a
 itemLine pool (RangeAfterTo a b) = keysLine pool rangeAfterToWord a b
 itemLine pool (RangeAfterToInclusive a b) = keysLine pool rangeAfterToInclusiveWord a b
 
--- ---- the listing
+-- ---- the listing (01 m7.3)
 
 -- "shared"
 abbrev pub sharedWord : List ℕ
@@ -137,11 +137,11 @@ oursWord = 111 ∷ 117 ∷ 114 ∷ 115 ∷ []
 abbrev pub theirsWord : List ℕ
 theirsWord = 116 ∷ 104 ∷ 101 ∷ 105 ∷ 114 ∷ 115 ∷ []
 
--- 01 m7, the example: each list has a line with its name and its count
+-- 01 m7.3, the example: each list has a line with its name and its count
 abbrev pub titleLine : List ℕ → ℕ → List ℕ
 titleLine title n = title ++ (spacedNumber n ++ lineFeed)
 
--- then its items; wrappers are read through
+-- 01 m3.7: then its items; wrappers are read through
 unfoldable pub itemLines : List ℕ → List ItemWords → List (List ℕ)
 itemLines pool [] = []
 itemLines pool (it ∷ its) = itemLine pool (queryItem it) ∷ itemLines pool its
@@ -149,11 +149,11 @@ itemLines pool (it ∷ its) = itemLine pool (queryItem it) ∷ itemLines pool it
 unfoldable pub listLines : List ℕ → List ℕ → List ItemWords → List (List ℕ)
 listLines pool title its = titleLine title (length its) ∷ itemLines pool its
 
--- 01 m7, the example: first what is shared, then ours, then theirs
+-- 01 m7.3, the example: first what is shared, then ours, then theirs
 unfoldable pub listingLines : List ℕ → List ItemWords → List ItemWords → List ItemWords → List (List ℕ)
 listingLines pool both mine yours = listLines pool sharedWord both ++ (listLines pool oursWord mine ++ listLines pool theirsWord yours)
 
--- 01 m7: the program writes the lines one after the other
+-- 01 m7.7: the program writes the lines one after the other
 unfoldable pub joined : List (List ℕ) → List ℕ
 joined [] = []
 joined (l ∷ ls) = l ++ joined ls
@@ -161,44 +161,44 @@ joined (l ∷ ls) = l ++ joined ls
 abbrev pub listing : List ℕ → List ItemWords → List ItemWords → List ItemWords → List ℕ
 listing pool both mine yours = joined (listingLines pool both mine yours)
 
--- the line at an index, of lists of words and their counts; past the last line there are no bytes
+-- 01 m7.3: the line at an index, of lists of words and their counts; past the last line there are no bytes
 unfoldable pub lineAt : List ℕ → List ℕ → List ℕ → List ℕ → ManyCounts → ℕ → List ℕ
 lineAt pool both mine yours n i =
     getD (listingLines pool (itemsFrom both 0 (n .«in_both»)) (itemsFrom mine 0 (n .ours)) (itemsFrom yours 0 (n .theirs))) i []
 
--- ---- a refusal
+-- ---- a refusal (01 m7.6)
 
 -- "refused"
 abbrev pub refusedWord : List ℕ
 refusedWord = 114 ∷ 101 ∷ 102 ∷ 117 ∷ 115 ∷ 101 ∷ 100 ∷ []
 
--- 01 Refusal numbers: the side, 0 ours, 1 theirs
+-- 01 refusal.1: the side, 0 ours, 1 theirs
 unfoldable pub sideText : ℕ → List ℕ
 sideText side = 32 ∷ cond (eqb side 0) oursWord theirsWord
 
--- 01 m7: 6 and 10 stand bare
+-- 01 m7.6: 6 and 10 stand bare
 unfoldable pub placeText : ℕ → ℕ → ℕ → List ℕ
 placeText number side index = cond (eqb number 6 || eqb number 10) [] (sideText side ++ spacedNumber index)
 
--- 01 m7: a refusal writes one line, with side and index
+-- 01 m7.6: a refusal writes one line, with side and index
 abbrev pub refusalLine : ℕ → ℕ → ℕ → List ℕ
 refusalLine number side index = refusedWord ++ (spacedNumber number ++ (placeText number side index ++ lineFeed))
 
 -- ---- answers
 
--- the longest line of items with keys of at most 255 bytes: RangeAfterToInclusive with two of them
+-- 01 m7.4, no.2: the longest line of items with keys of at most 255 bytes: RangeAfterToInclusive with two of them
 abbrev pub mostLine : ℕ
 mostLine = 1044
 
--- 01 no. 6: the line is longer than the lent bytes; 0 and 0
+-- 01 no.6: the line is longer than the lent bytes; 0 and 0
 unfoldable pub lineAnswer : List ℕ → ℕ → Answer ℕ
 lineAnswer line room = cond (ltb room (length line)) (refused 6 0 0) (answered (length line))
 
--- the bytes then: the line and what stood past it, or all as they were
+-- 01 demand.1: the bytes then: the line and what stood past it, or all as they were
 unfoldable pub lineIn : List ℕ → List ℕ → List ℕ
 lineIn line out = cond (ltb (length out) (length line)) out (line ++ drop (length line) out)
 
--- the paper's numbers for each case of the code's answer
+-- 01 form.11: the paper's numbers for each case of the code's answer
 abbrev pub lineOf : Line → Answer ℕ
 lineOf (Bytes n) = answered n
 lineOf (Refused r) = refusedAs r

@@ -29,7 +29,7 @@ pub enum Line {
 }
 
 // Writes the i-th line of the listing: line 0 is the title of the shared items, and there are 3 lines more than items. Lent bytes past the line
-// stay. A line past the last has no bytes.
+// stay. A line past the last has no bytes (01 m7.3, m7.4).
 pub fn listing_line(
     pool: &[u8],
     both: &[u32],
@@ -49,7 +49,7 @@ pub fn listing_line(
     Line::Bytes(put_line(out, pool, both, mine, yours, counts, i, true))
 }
 
-// Writes the line of a refusal. Lent bytes past it stay.
+// Writes the line of a refusal. Lent bytes past it stay (01 m7.6).
 pub fn refusal_line(refusal: Refusal, out: &mut [u8]) -> Line
     ensures { λ r. ⌜ lineOf r ≡ lineAnswer (refusalLine (refusal .number) (refusal .side) (refusal .index)) (length (now (out .entry))) ⌝ }
     ensures { λ _. ⌜ now (out .exit) ≡ lineIn (refusalLine (refusal .number) (refusal .side) (refusal .index)) (now (out .entry)) ⌝ }

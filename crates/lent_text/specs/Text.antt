@@ -1,4 +1,4 @@
--- Decimal numbers as bytes, and bytes with a text stored in them. Definitions only. Assumes nothing.
+-- Decimal numbers as bytes, and bytes with a text stored in them. Definitions only. It serves 01 m6.13, m7.6. Assumes nothing.
 use Prim.Native.Nat.{ℕ, zero, suc, _+_, _/_, _%_}
 use mathlib.Core.Bool.{Bool, cond}
 use mathlib.Core.List.{List, [], _∷_, _++_}

@@ -21,7 +21,7 @@ pub enum Described {
     Refused(Refusal),
 }
 
-// Writes a report's text. Lent bytes past it stay.
+// Writes a report's text. Lent bytes past it stay (01 m6.13).
 pub fn describe(report: PositionMismatch, out: &mut [u8]) -> Described
     ensures { λ r. ⌜ describedOf r ≡ describeAnswer report (length (now (out .entry))) ⌝ }
     ensures { λ _. ⌜ now (out .exit) ≡ describedIn (describeAnswer report (length (now (out .entry)))) report (now (out .entry)) ⌝ }

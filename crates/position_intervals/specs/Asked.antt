@@ -14,29 +14,29 @@ use Rattle.position_intervals.specs.Given.{intervalsOf, intervalsVerdict
 
 -- ---- positions
 
--- k numbers from s on
+-- 01 m6.4: k numbers from s on
 unfoldable pub countUp : ℕ → ℕ → List ℕ
 countUp s zero = []
 countUp s (suc k) = s ∷ countUp (suc s) k
 
--- 01 m6: half-open: the positions of each interval, from its start on, below its end
+-- 01 m6.4: half-open: the positions of each interval, from its start on, below its end
 unfoldable pub positionsOf : List Interval → List ℕ
 positionsOf [] = []
 positionsOf (a ∷ A) = countUp (a .0) (a .1 - a .0) ++ positionsOf A
 
--- ---- answers
+-- ---- answers (01 m6.8)
 
 abbrev pub containsAnswer : List ℕ → ℕ → Answer Bool
 containsAnswer ws p = andThen (intervalsVerdict ws) (answered (holds (intervalsOf ws) p))
 
--- 01 m6: `len` is the number covered
+-- 01 m6.9: `len` is the number covered
 abbrev pub lenAnswer : List ℕ → Answer ℕ
 lenAnswer ws = andThen (intervalsVerdict ws) (answered (length (positionsOf (intervalsOf ws))))
 
 abbrev pub isEmptyAnswer : List ℕ → Answer Bool
 isEmptyAnswer ws = andThen (intervalsVerdict ws) (answered (eqb (length (positionsOf (intervalsOf ws))) 0))
 
--- the paper's numbers and values for each case of the answers that the code gives
+-- 01 form.11: the paper's numbers and values for each case of the answers that the code gives
 
 abbrev pub yesOrNoOf : YesOrNo → Answer Bool
 yesOrNoOf (yesOrNo.Is b) = answered b

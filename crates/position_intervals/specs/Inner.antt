@@ -7,16 +7,16 @@ use lib.ListN.{length}
 use Rattle.intervals.specs.Intervals.{Canonical}
 use Rattle.position_intervals.specs.Given.{intervalsOf}
 
--- what accepted intervals are: words in pairs, canonical
+-- 01 m6.4: what accepted intervals are: words in pairs, canonical
 pub record Sound (ws : List ℕ) : Type 0 where
   pub even : length ws % 2 ≡ 0
   pub canonical : Canonical (intervalsOf ws)
 
--- strictly ascending, the first at or above lo
+-- 01 no.8: strictly ascending, the first at or above lo
 abbrev pub Ascends : ℕ → List ℕ → Type 0
 Ascends lo [] = Unit {0}
 Ascends lo (p ∷ P) = (lo ≤ p) × Ascends (suc p) P
 
--- the largest u64; no position is past it, and as a position it is covered by nothing
+-- 01 m6.3: the largest u64; no position is past it, and as a position it is covered by nothing
 abbrev pub lastWord : ℕ
 lastWord = 18446744073709551615

@@ -12,7 +12,7 @@ use crate::YesOrNo;
 use crate::given::check_intervals;
 use item_check::Checked;
 
-// Whether a position lies in one of the intervals.
+// Whether a position lies in one of the intervals (01 m6.3, m6.8, form.2, form.3).
 pub fn contains(intervals: &[u64], position: LogPosition) -> YesOrNo
     ensures { λ r. ⌜ yesOrNoOf r ≡ containsAnswer (now (intervals .entry)) (position .0) ⌝ }
 {
@@ -42,7 +42,7 @@ fn in_one_of(intervals: &[u64], position: LogPosition) -> bool
     in_one_of(&intervals[cut..], position)
 }
 
-// How many positions are covered.
+// How many positions are covered (01 m6.9).
 pub fn len(intervals: &[u64]) -> Length
     ensures { λ r. ⌜ lengthOf r ≡ lenAnswer (now (intervals .entry)) ⌝ }
 {
@@ -67,7 +67,7 @@ fn total_width(intervals: &[u64]) -> u64
     total
 }
 
-// Whether no position is covered.
+// Whether no position is covered (01 m6.9).
 pub fn is_empty(intervals: &[u64]) -> YesOrNo
     ensures { λ r. ⌜ yesOrNoOf r ≡ isEmptyAnswer (now (intervals .entry)) ⌝ }
 {

@@ -11,7 +11,7 @@ pub enum PositionKey {
     Refused,
 }
 
-// The position of a key: its 8 bytes, the first the greatest.
+// The position of a key: its 8 bytes, the first the greatest (01 m6.1, m6.2).
 pub fn be_u64(key: &[u8]) -> PositionKey
     ensures { λ r. ⌜ positionOf r ≡ positionAnswer (now (key .entry)) ⌝ }
 {

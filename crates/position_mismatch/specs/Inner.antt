@@ -1,5 +1,5 @@
--- What private and inner functions require and promise: reports that grow, and the walks. No public call is promised by these. Definitions
--- only. Assumes nothing.
+-- What private and inner functions require and promise: reports that grow, and the walks. No public call is promised by these. Definitions only.
+-- It serves 01 m6.10, m6.11, form.9. Assumes nothing.
 use Prim.Native.Nat.{ℕ, _+_, _-_, _/_, _≤_, _<_, min, max}
 use mathlib.Core.Bool.{cond, _&&_}
 use mathlib.Core.List.{List, [], _∷_}

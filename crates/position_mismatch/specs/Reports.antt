@@ -14,31 +14,31 @@ use Rattle.position_mismatch.specs.declared.Compared.{Compared}
 
 -- ---- positions
 
--- whether p stands in a list
+-- 01 m6.10: whether p stands in a list
 unfoldable pub isIn : List ℕ → ℕ → Bool
 isIn [] p = false
 isIn (q ∷ P) p = eqb p q || isIn P p
 
--- those of a list that f holds of, in order
+-- 01 m6.10: those of a list that f holds of, in order
 unfoldable pub keep : (ℕ → Bool) → List ℕ → List ℕ
 keep f [] = []
 keep f (p ∷ P) = cond (f p) (p ∷ keep f P) (keep f P)
 
--- 01 m6: missing: covered and not proved
+-- 01 m6.10: missing: covered and not proved
 unfoldable pub missing : List Interval → List ℕ → List ℕ
 missing A proved = keep (λ p. not (isIn proved p)) (positionsOf A)
 
--- extra: proved and not covered
+-- 01 m6.10: extra: proved and not covered
 unfoldable pub extra : List Interval → List ℕ → List ℕ
 extra A proved = keep (λ p. not (holds A p)) proved
 
--- 01 m6: present counts positions that are in both
+-- 01 m6.12: present counts positions that are in both
 unfoldable pub present : List Interval → List ℕ → List ℕ
 present A proved = keep (isIn proved) (positionsOf A)
 
 -- ---- the check of spans
 
--- 01 no. 8: spans with start > end or start below the previous end, e; reading A18: empty and touching ones are accepted
+-- 01 no.8, refusal.3, refusal.4: spans with start > end or start below the previous end, e; reading A18: empty and touching ones are accepted
 unfoldable pub firstCrossing : ℕ → ℕ → List Interval → Verdict
 firstCrossing i e [] = accepted
 firstCrossing i e (a ∷ S) = cond (leb e (a .0) && leb (a .0) (a .1)) (firstCrossing (suc i) (a .1) S) (refused 8 1 i)
@@ -48,11 +48,11 @@ spansVerdict ws spans = andThen (intervalsVerdict ws) (firstCrossing 0 0 spans)
 
 -- ---- reports
 
--- 01 m6: at most `MAX_REPORTED_POSITIONS`, which belongs to the report and is 16
+-- 01 m6.10, form.4: at most `MAX_REPORTED_POSITIONS`, which belongs to the report and is 16
 abbrev pub mostReported : ℕ
 mostReported = 16
 
--- 01 m6: the exact total and the smallest offenders, of a list that has them in rising order; unused places are 0
+-- 01 m6.10: the exact total and the smallest offenders, of a list that has them in rising order; unused places are 0
 unfoldable pub reportOf : List ℕ → PositionMismatch
 reportOf offenders = record {
   total = length offenders;
@@ -60,7 +60,7 @@ reportOf offenders = record {
   examples = take mostReported offenders ++ replicate (mostReported - length offenders) 0;
 }
 
--- ---- answers
+-- ---- answers (01 m6.10, refusal.6)
 
 abbrev pub missingAnswer : List ℕ → List ℕ → Answer PositionMismatch
 missingAnswer ws proved = andThen (provedVerdict ws proved) (answered (reportOf (missing (intervalsOf ws) proved)))
@@ -68,15 +68,15 @@ missingAnswer ws proved = andThen (provedVerdict ws proved) (answered (reportOf 
 abbrev pub extraAnswer : List ℕ → List ℕ → Answer PositionMismatch
 extraAnswer ws proved = andThen (provedVerdict ws proved) (answered (reportOf (extra (intervalsOf ws) proved)))
 
--- 01 m6: `missing_from_spans` gives what the spanned positions would give
+-- 01 m6.11: `missing_from_spans` gives what the spanned positions would give
 abbrev pub spansAnswer : List ℕ → List Interval → Answer PositionMismatch
 spansAnswer ws spans = andThen (spansVerdict ws spans) (answered (reportOf (missing (intervalsOf ws) (positionsOf spans))))
 
--- what the code answers, in the paper's numbers and values
+-- 01 form.11: what the code answers, in the paper's numbers and values
 abbrev pub comparedOf : Compared → Answer PositionMismatch
 comparedOf r = andThen (verdictOf (r .checked)) (answered (r .report))
 
--- the report that stands in an answer: the empty one where the call is refused
+-- 01 form.4: the report that stands in an answer: the empty one where the call is refused
 abbrev pub reportIn : Answer PositionMismatch → PositionMismatch
 reportIn (answered report) = report
 reportIn (refused number side index) = reportOf []

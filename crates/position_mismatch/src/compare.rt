@@ -19,7 +19,7 @@ use item_check::Checked;
 use position_intervals::LAST_WORD;
 use position_intervals::given::check_proved;
 
-// Which covered positions are not proved.
+// Which covered positions are not proved (01 m6.10, change.4).
 pub fn missing_from(intervals: &[u64], proved: &[u64]) -> Compared
     ensures { λ r. ⌜ comparedOf r ≡ missingAnswer (now (intervals .entry)) (now (proved .entry)) ⌝ }
     ensures { λ r. ⌜ r .report ≡ reportIn (missingAnswer (now (intervals .entry)) (now (proved .entry))) ⌝ }
@@ -30,7 +30,7 @@ pub fn missing_from(intervals: &[u64], proved: &[u64]) -> Compared
     }
 }
 
-// Which proved positions are not covered.
+// Which proved positions are not covered (01 m6.10, change.4).
 pub fn extra_in(intervals: &[u64], proved: &[u64]) -> Compared
     ensures { λ r. ⌜ comparedOf r ≡ extraAnswer (now (intervals .entry)) (now (proved .entry)) ⌝ }
     ensures { λ r. ⌜ r .report ≡ reportIn (extraAnswer (now (intervals .entry)) (now (proved .entry))) ⌝ }

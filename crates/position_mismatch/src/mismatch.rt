@@ -9,7 +9,7 @@ impl PositionMismatch {
     // How many positions a report names at most: the first places, and the length of its array.
     pub const MAX_REPORTED_POSITIONS: usize = 16;
 
-    // The report that nothing is off.
+    // The report that nothing is off (01 form.4).
     pub fn empty() -> Self
         ensures { λ r. ⌜ r ≡ reportOf [] ⌝ }
     {
@@ -20,7 +20,7 @@ impl PositionMismatch {
         }
     }
 
-    // Whether nothing is off.
+    // Whether nothing is off (01 m6.10).
     pub fn is_empty(self) -> bool
         ensures { λ r. ⌜ r ≡ eqb (self .total) 0 ⌝ }
     {

@@ -18,7 +18,7 @@ use Rattle.position_key.specs.Keys.{keySize, positionKey}
 
 -- ---- coverage
 
--- an item holds a position when it holds its key
+-- 01 m6.3: an item holds a position when it holds its key
 unfoldable pub holdsPosition : List ℕ → ItemWords → ℕ → Bool
 holdsPosition pool it p = holds pool (queryItem it) (positionKey p)
 
@@ -26,24 +26,24 @@ unfoldable pub someHolds : List ℕ → List ItemWords → ℕ → Bool
 someHolds pool [] p = false
 someHolds pool (it ∷ its) p = holdsPosition pool it p || someHolds pool its p
 
--- 01 m6: position p is covered when p < count and some item holds it
+-- 01 m6.3: position p is covered when p < count and some item holds it
 unfoldable pub covered : List ℕ → List ItemWords → ℕ → ℕ → Bool
 covered pool its count p = ltb p count && someHolds pool its p
 
 -- ---- the checks of position items
 
--- 01 no. 5: wrapper in a position query
+-- 01 no.5: wrapper in a position query
 abbrev pub wrapped : ItemWords → Bool
 wrapped it = not (eqb (it .wrapper) 0)
 
--- 01 no. 7: position key not 8 bytes
+-- 01 no.7: position key not 8 bytes
 abbrev pub noPosition : List ℕ → KeyAt → Bool
 noPosition pool k = not (eqb (length (bytesOf pool k)) keySize)
 
 abbrev pub badKey : List ℕ → ItemWords → Bool
 badKey pool it = (hasStart (it .code) && noPosition pool (it .start)) || (hasEnd (it .code) && noPosition pool (it .end))
 
--- 01 Order: of an item 1, 2, 5, 7; 0 where nothing is wrong. Items need not be upright; reading A19: 2 and 5 stand before 7
+-- 01 refusal.6, m6.1: of an item 1, 2, 5, 7; 0 where nothing is wrong. Items need not be upright; reading A19: 2 and 5 stand before 7
 abbrev pub positionFault : List ℕ → ItemWords → ℕ
 positionFault pool it =
     cond (malformed it) 1
@@ -51,29 +51,29 @@ positionFault pool it =
     (cond (wrapped it) 5
     (cond (badKey pool it) 7 0)))
 
--- 01 Order: item by item, the first bad item deciding; position items are side 0
+-- 01 refusal.6, refusal.3: item by item, the first bad item deciding; position items are side 0
 unfoldable pub firstFault : List ℕ → ℕ → List ItemWords → Verdict
 firstFault pool i [] = accepted
 firstFault pool i (it ∷ its) = andThen (faultAt (positionFault pool it) 0 i) (firstFault pool (suc i) its)
 
 -- ---- room
 
--- whether f holds of some number below n
+-- 01 m6.5: whether f holds of some number below n
 unfoldable pub anyBelow : (ℕ → Bool) → ℕ → Bool
 anyBelow f zero = false
 anyBelow f (suc n) = f n || anyBelow f n
 
--- 01 m6: items with a nonempty clipped range: those that hold some position below the count
+-- 01 m6.5: items with a nonempty clipped range: those that hold some position below the count
 unfoldable pub rangesNeeded : List ℕ → ℕ → List ItemWords → ℕ
 rangesNeeded pool count [] = 0
 rangesNeeded pool count (it ∷ its) =
     cond (anyBelow (holdsPosition pool it) count) (suc (rangesNeeded pool count its)) (rangesNeeded pool count its)
 
--- 01 m6: 6 exactly if these outnumber the pairs of room, before merging; room means whole pairs; side 0 and index 0
+-- 01 m6.5, refusal.2, refusal.5: 6 exactly if these outnumber the pairs of room, before merging; room means whole pairs; side 0 and index 0
 abbrev pub roomVerdict : ℕ → ℕ → Verdict
 roomVerdict needed words = cond (ltb (words / 2) needed) (refused 6 0 0) accepted
 
--- 01 Order: the pool's size, the list's shape, item by item, then 6
+-- 01 refusal.6: the pool's size, the list's shape, item by item, then 6
 abbrev pub queryVerdict : List ℕ → List ℕ → Verdict
 queryVerdict pool ws = andThen (poolVerdict pool) (andThen (shapeVerdict ws 0) (firstFault pool 0 (itemsOf ws)))
 
@@ -82,7 +82,7 @@ buildVerdict pool ws count words = andThen (queryVerdict pool ws) (roomVerdict (
 
 -- ---- the promise
 
--- 01 m6: the result is pairs, canonical, of the covered positions. `covers` is for every number: u64::MAX is below no count.
+-- 01 m6.3, m6.4, m6.6: the result is pairs, canonical, of the covered positions. `covers` is for every number: u64::MAX is below no count.
 -- Reading A20: words of pairs merged away become 0, later ones stay
 pub record Covers (pool ws : List ℕ) (count : ℕ) (old new : List ℕ) (m : ℕ) : Type 0 where
   pub canonical : interval.Canonical (pairs new m)
@@ -90,17 +90,17 @@ pub record Covers (pool ws : List ℕ) (count : ℕ) (old new : List ℕ) (m : �
   pub freed : (i : ℕ) → 2 * m ≤ i → i < 2 * rangesNeeded pool count (itemsOf ws) → getD new i 0 ≡ 0
   pub later : drop (2 * rangesNeeded pool count (itemsOf ws)) new ≡ drop (2 * rangesNeeded pool count (itemsOf ws)) old
 
--- the paper's numbers for each case of the code's answer
+-- 01 form.11: the paper's numbers for each case of the code's answer
 abbrev pub builtOf : Built → Answer ℕ
 builtOf (Pairs m) = answered m
 builtOf (Refused r) = refusedAs r
 
--- whether a call answers, or why not
+-- 01 form.11: whether a call answers, or why not
 abbrev pub asVerdict : {A : Type 0} → Answer A → Verdict
 asVerdict (answered a) = accepted
 asVerdict (refused number side index) = refused number side index
 
--- refused exactly as the checks say; pairs written where it is not, and reading A1: nothing written where it is
+-- 01 demand.1, m6.5: refused exactly as the checks say; pairs written where it is not, and reading A1: nothing written where it is
 pub record FromQueryItems (pool ws : List ℕ) (count : ℕ) (old new : List ℕ) (r : Answer ℕ) : Type 0 where
   pub verdict : asVerdict r ≡ buildVerdict pool ws count (length old)
   pub written : (m : ℕ) → r ≡ answered m → Covers pool ws count old new m

@@ -1,5 +1,5 @@
--- What private functions require and promise: the ranges of items, and building. No public call is promised by these. Definitions only.
--- Assumes nothing.
+-- What private functions require and promise: the ranges of items, and building. No public call is promised by these. Definitions only. It
+-- serves 01 m6.3, m6.4. Assumes nothing.
 use Prim.Native.Nat.{ℕ, _+_, _*_, _≤_, _<_, min}
 use mathlib.Core.Path.{_≡_}
 use mathlib.Core.List.{List, [], _∷_, _++_}

@@ -44,7 +44,7 @@ struct PositionRange {
 }
 
 // Writes the positions that items cover as canonical pairs, and says how many. That there is room for the items' ranges is known before one
-// is written.
+// is written (01 m6.3, m6.4, m6.5, m6.6).
 pub fn from_query_items(pool: &[u8], items: &[u32], count: RowCount, out: &mut [u64]) -> Built
     ensures { λ r. ⌜ FromQueryItems (now (pool .entry)) (now (items .entry)) (count .0) (now (out .entry)) (now (out .exit)) (builtOf r) ⌝ }
 {

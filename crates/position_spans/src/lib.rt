@@ -23,7 +23,7 @@ pub struct Span {
 // How many spans `missing_from_few_spans` takes.
 pub const FEW_SPANS: usize = 32;
 
-// Which covered positions no span contains. Linear in intervals and spans.
+// Which covered positions no span contains. Linear in intervals and spans (01 m6.11, form.9).
 pub fn missing_from_spans(intervals: &[u64], spans: &[Span]) -> Compared
     ensures { λ r. ⌜ comparedOf r ≡ spansAnswer (now (intervals .entry)) (spanPairs (now (spans .entry))) ⌝ }
     ensures { λ r. ⌜ r .report ≡ reportIn (spansAnswer (now (intervals .entry)) (spanPairs (now (spans .entry)))) ⌝ }
@@ -38,7 +38,7 @@ pub fn missing_from_spans(intervals: &[u64], spans: &[Span]) -> Compared
 }
 
 // The same of an array, for callers that lend no slice of spans. A shorter list is filled up with empty spans at its last end, which change
-// no answer (`answer-filled`).
+// no answer (`answer-filled`) (01 m6.11).
 pub fn missing_from_few_spans(intervals: &[u64], spans: [Span; FEW_SPANS]) -> Compared
     ensures { λ r. ⌜ comparedOf r ≡ spansAnswer (now (intervals .entry)) (spanPairs spans) ⌝ }
     ensures { λ r. ⌜ r .report ≡ reportIn (spansAnswer (now (intervals .entry)) (spanPairs spans)) ⌝ }

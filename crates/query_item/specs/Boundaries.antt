@@ -29,7 +29,7 @@ use Rattle.query_item.specs.declared.MaybeItem.{MaybeItem}
 use Rattle.query_item.specs.declared.MaybeItem.the-variants.{NoItem, Item}
 use Rattle.query_item.specs.Items.{bytesOf, absent, same, queryItem, itemAt}
 
--- 01 Forms: the boundary enum with a borrowed key becomes a kind beside a lent slice
+-- 01 change.3: the boundary enum with a borrowed key becomes a kind beside a lent slice
 abbrev pub boundary : BoundaryKind → List ℕ → Boundary
 boundary kind.UnboundedStart k = unboundedStart
 boundary kind.UnboundedEnd k = unboundedEnd
@@ -37,7 +37,7 @@ boundary kind.Inclusive k = atKey k inclusive
 boundary kind.ExclusiveStart k = atKey k exclusiveStart
 boundary kind.ExclusiveEnd k = atKey k exclusiveEnd
 
--- a boundary of a pool as its kind and its key
+-- 01 change.1: a boundary of a pool as its kind and its key
 abbrev pub kindOf : RangeSetItem → BoundaryKind
 kindOf UnboundedStart = kind.UnboundedStart
 kindOf UnboundedEnd = kind.UnboundedEnd
@@ -55,11 +55,11 @@ keyOf (ExclusiveEnd k) = k
 abbrev pub boundaryOf : List ℕ → RangeSetItem → Boundary
 boundaryOf pool x = boundary (kindOf x) (bytesOf pool (keyOf x))
 
--- 01 Boundary order, of boundaries of a pool
+-- 01 keys.7, keys.8: the order of boundaries, of those of a pool
 abbrev pub compareIn : List ℕ → RangeSetItem → RangeSetItem → Ordering
 compareIn pool x y = compareBoundaries (boundaryOf pool x) (boundaryOf pool y)
 
--- 01 m2: `invert` makes Inclusive the exclusive boundary of the asked side (true: a start), either exclusive one Inclusive, and keeps the unbounded
+-- 01 m2.2: `invert` makes Inclusive the exclusive boundary of the asked side (true: a start), either exclusive one Inclusive, and keeps the unbounded
 abbrev pub invertKind : BoundaryKind → Bool → BoundaryKind
 invertKind kind.UnboundedStart side = kind.UnboundedStart
 invertKind kind.UnboundedEnd side = kind.UnboundedEnd
@@ -68,7 +68,7 @@ invertKind kind.Inclusive false = kind.ExclusiveEnd
 invertKind kind.ExclusiveStart side = kind.Inclusive
 invertKind kind.ExclusiveEnd side = kind.Inclusive
 
--- the boundary of a kind and a key of the pool
+-- 01 m2.2: the boundary of a kind and a key of the pool
 abbrev pub withKey : BoundaryKind → KeyAt → RangeSetItem
 withKey kind.UnboundedStart k = UnboundedStart
 withKey kind.UnboundedEnd k = UnboundedEnd
@@ -79,12 +79,12 @@ withKey kind.ExclusiveEnd k = ExclusiveEnd k
 abbrev pub invertOf : RangeSetItem → Bool → RangeSetItem
 invertOf x side = withKey (invertKind (kindOf x) side) (keyOf x)
 
--- ---- conversions
+-- ---- conversions (01 m2.1)
 
 abbrev pub fromTo : RangeSetItem → RangeSetItem → RangeSet
 fromTo s e = record { start = s; end = e }
 
--- 01 m2: an item as its two boundaries
+-- 01 m2.1: an item as its two boundaries
 abbrev pub toRangeSet : QueryItem → RangeSet
 toRangeSet (Key a) = fromTo (Inclusive a) (Inclusive a)
 toRangeSet (Range a b) = fromTo (Inclusive a) (ExclusiveEnd b)
@@ -97,14 +97,14 @@ toRangeSet (RangeAfter a) = fromTo (ExclusiveStart a) UnboundedEnd
 toRangeSet (RangeAfterTo a b) = fromTo (ExclusiveStart a) (ExclusiveEnd b)
 toRangeSet (RangeAfterToInclusive a b) = fromTo (ExclusiveStart a) (Inclusive b)
 
--- of the item of six words, and of that at an index
+-- 01 m2.1, m3.7: of the item of six words, and of that at an index
 abbrev pub rangeOf : ItemWords → RangeSet
 rangeOf it = toRangeSet (queryItem it)
 
 abbrev pub setAt : List ℕ → ℕ → RangeSet
 setAt ws i = rangeOf (itemAt ws i)
 
--- 01 Conversion back: the item of the two boundaries, or "no item" where the table has none;
+-- 01 keys.12: the item of the two boundaries, or "no item" where the table has none;
 -- inclusive a to inclusive a, by bytes, is Key a with the start's offset
 abbrev pub itemBetween : List ℕ → RangeSetItem → RangeSetItem → MaybeItem
 itemBetween pool (Inclusive a) (Inclusive b) = cond (same (bytesOf pool a) (bytesOf pool b)) (Item (Key a)) (Item (RangeInclusive a b))
@@ -128,6 +128,6 @@ itemBetween pool (ExclusiveEnd a) e = NoItem
 abbrev pub toQueryItem : List ℕ → RangeSet → MaybeItem
 toQueryItem pool s = itemBetween pool (s .start) (s .end)
 
--- 01 Boundary order: an item is upright when its start is not above its end
+-- 01 keys.9: an item is upright when its start is not above its end
 abbrev pub upright : List ℕ → RangeSet → Bool
 upright pool s = isAtMost (compareIn pool (s .start) (s .end))

@@ -22,13 +22,13 @@ use Rattle.query_item.specs.declared.QueryItem.the-variants.{
   RangeAfterToInclusive,
 }
 
--- 01 Keys: items name keys by offset and length in one lent pool; what reaches past the pool is not there
+-- 01 keys.2: items name keys by offset and length in one lent pool; what reaches past the pool is not there
 abbrev pub bytesOf : List ℕ → KeyAt → List ℕ
 bytesOf pool k = take (k .length) (drop (k .offset) pool)
 
 -- ---- the table of 01, a line for each code
 
--- the item of a code, a start and an end
+-- 01 keys.3, keys.4: the item of a code, a start and an end
 abbrev pub itemOf : ℕ → KeyAt → KeyAt → QueryItem
 itemOf c a b =
     cond (eqb c 0) (Key a)
@@ -42,7 +42,7 @@ itemOf c a b =
     (cond (eqb c 9) (RangeAfterToInclusive a b)
     RangeFull))))))))
 
--- the six words of an item, plain or with a wrapper; words of an absent key are 0
+-- 01 keys.3, keys.5, keys.6: the six words of an item, plain or with a wrapper; words of an absent key are 0
 abbrev pub keyAt : ℕ → ℕ → KeyAt
 keyAt o l = record { offset = o; length = l }
 
@@ -64,7 +64,7 @@ wordsOf w (RangeAfter a) = itemWords 7 w a absent
 wordsOf w (RangeAfterTo a b) = itemWords 8 w a b
 wordsOf w (RangeAfterToInclusive a b) = itemWords 9 w a b
 
--- x < y and x ≤ y and x = y of keys
+-- 01 keys.1: x < y and x ≤ y and x = y of keys
 abbrev pub below : List ℕ → List ℕ → Bool
 below x y = isLess (compareKeys x y)
 
@@ -74,7 +74,7 @@ atMost x y = isAtMost (compareKeys x y)
 abbrev pub same : List ℕ → List ℕ → Bool
 same x y = isEqual (compareKeys x y)
 
--- which keys an item holds
+-- 01 item.0, item.1, item.2, item.3, item.4, item.5, item.6, item.7, item.8, item.9: which keys an item holds
 abbrev pub holds : List ℕ → QueryItem → List ℕ → Bool
 holds pool (Key a) k = same k (bytesOf pool a)
 holds pool (Range a b) k = atMost (bytesOf pool a) k && below k (bytesOf pool b)
@@ -89,39 +89,39 @@ holds pool (RangeAfterToInclusive a b) k = below (bytesOf pool a) k && atMost k 
 
 -- ---- lists of items as words
 
--- 01 Items: an item is six words
+-- 01 keys.3: an item is six words
 abbrev pub itemSize : ℕ
 itemSize = 6
 
--- the item at an index; what is past the list's end reads as 0
+-- 01 keys.3: the item at an index; what is past the list's end reads as 0
 unfoldable pub itemAt : List ℕ → ℕ → ItemWords
 itemAt ws i =
     itemWords (getD ws (itemSize * i) 0) (getD ws (itemSize * i + 1) 0)
     (keyAt (getD ws (itemSize * i + 2) 0) (getD ws (itemSize * i + 3) 0))
     (keyAt (getD ws (itemSize * i + 4) 0) (getD ws (itemSize * i + 5) 0))
 
--- k items from index i on
+-- 01 keys.3: k items from index i on
 unfoldable pub itemsFrom : List ℕ → ℕ → ℕ → List ItemWords
 itemsFrom ws i zero = []
 itemsFrom ws i (suc k) = itemAt ws i ∷ itemsFrom ws (suc i) k
 
--- wrappers are read through
+-- 01 m3.7: wrappers are read through
 abbrev pub queryItem : ItemWords → QueryItem
 queryItem it = itemOf (it .code) (it .start) (it .end)
 
 abbrev pub flat : ItemWords → List ℕ
 flat it = it .code ∷ it .wrapper ∷ it .start .offset ∷ it .start .length ∷ it .end .offset ∷ it .end .length ∷ []
 
--- the words of a list of items
+-- 01 keys.3: the words of a list of items
 unfoldable pub flatAll : List ItemWords → List ℕ
 flatAll [] = []
 flatAll (it ∷ its) = flat it ++ flatAll its
 
--- a list of words with an item written at an index; where it has no room nothing is written
+-- 01 refusal.5: a list of words with an item written at an index; where it has no room nothing is written
 unfoldable pub withItem : List ℕ → ℕ → ItemWords → List ℕ
 withItem ws i it = cond (ltb i (length ws / itemSize)) (sets ws (itemSize * i) (flat it)) ws
 
--- a list holds a key when one of its items does, by the table
+-- 01 demand.2: a list holds a key when one of its items does, by the table
 unfoldable pub holdsAny : List ℕ → List ItemWords → List ℕ → Bool
 holdsAny pool [] k = false
 holdsAny pool (it ∷ its) k = holds pool (queryItem it) k || holdsAny pool its k

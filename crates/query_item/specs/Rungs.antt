@@ -1,5 +1,5 @@
--- Where a kind of boundary stands among those of one key, the unbounded ones at the ends: what `compare_boundaries` goes by.
--- `proofs/Rungs.antt` says that it gives the order of boundaries. Assumes nothing.
+-- Where a kind of boundary stands among those of one key, the unbounded ones at the ends: what `compare_boundaries` goes by. `proofs/Rungs.antt`
+-- says that it gives the order of boundaries. It serves 01 keys.7, keys.8. Assumes nothing.
 use Prim.Native.Nat.{ℕ}
 use mathlib.Core.Bool.{Bool, _&&_}
 use lib.Dec.{ltb}

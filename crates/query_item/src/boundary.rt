@@ -12,7 +12,7 @@ use crate::RangeSetItem;
 use key_order::Ordering;
 use key_order::compare_numbers;
 
-// How a boundary of the kind left at the key a stands to one of the kind right at the key b.
+// How a boundary of the kind left at the key a stands to one of the kind right at the key b (01 m2.1, keys.7, keys.8).
 pub fn compare_boundaries(left: BoundaryKind, a: &[u8], right: BoundaryKind, b: &[u8]) -> Ordering
     ensures { λ r. ⌜ r ≡ compareBoundaries (boundary left (now (a .entry))) (boundary right (now (b .entry))) ⌝ }
 {
@@ -24,7 +24,7 @@ pub fn compare_boundaries(left: BoundaryKind, a: &[u8], right: BoundaryKind, b: 
     compare_numbers(x, y)
 }
 
-// The kind of the inverted boundary, whose key stays: Inclusive becomes the exclusive one of the asked side.
+// The kind of the inverted boundary, whose key stays: Inclusive becomes the exclusive one of the asked side (01 m2.2).
 pub fn invert(kind: BoundaryKind, is_start: bool) -> BoundaryKind
     ensures { λ r. ⌜ r ≡ invertKind kind «is_start» ⌝ }
 {

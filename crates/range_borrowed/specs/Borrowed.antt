@@ -12,23 +12,23 @@ use Rattle.range_borrowed.specs.declared.Direction.the-variants.{LeftOf,
 use Rattle.range_borrowed.specs.declared.KeyContainmentResult.{KeyContainmentResult}
 use Rattle.range_borrowed.specs.Kinds.{kindNumbered}
 
--- 01 m2: the borrowed range keeps its two keys as lent bytes beside their kinds
+-- 01 m2.7: the borrowed range keeps its two keys as lent bytes beside their kinds
 abbrev pub lent : List ℕ → ℕ → Boundary
 lent k kind = boundary (kindNumbered kind) k
 
--- 01 m2: whether the key sits on an exclusive bound: the start is ExclusiveStart, or the end ExclusiveEnd, at the key's bytes
+-- 01 m2.3: whether the key sits on an exclusive bound: the start is ExclusiveStart, or the end ExclusiveEnd, at the key's bytes
 abbrev pub onExclusiveBound : Boundary → Boundary → List ℕ → Bool
 onExclusiveBound s e k = isEqual (compareBoundaries s (atKey k exclusiveStart)) || isEqual (compareBoundaries (atKey k exclusiveEnd) e)
 
--- the key is held; it sits on an exclusive bound
+-- 01 m2.3: the key is held; it sits on an exclusive bound
 abbrev pub resultOf : Bool → Bool → KeyContainmentResult
 resultOf held on = record { included = held; «on_bounds_not_included» = on }
 
--- 01 m2: `could_contain_key` gives whether the key lies between the two boundaries, plus whether it sits on an exclusive bound
+-- 01 m2.3: `could_contain_key` gives whether the key lies between the two boundaries, plus whether it sits on an exclusive bound
 abbrev pub containmentBetween : Boundary → Boundary → List ℕ → KeyContainmentResult
 containmentBetween s e k = resultOf (between s e k) (onExclusiveBound s e k)
 
--- 01 m2: left is yes when the start is unbounded or its bytes are below the key; right mirrors it
+-- 01 m2.4: left is yes when the start is unbounded or its bytes are below the key; right mirrors it
 
 abbrev pub mayStandLeft : Boundary → List ℕ → Bool
 mayStandLeft unboundedStart k = true
@@ -40,7 +40,7 @@ mayStandRight unboundedStart k = true
 mayStandRight unboundedEnd k = true
 mayStandRight (atKey b i) k = below k b
 
--- 01 m2: `could_have_items_in_direction` compares one bound
+-- 01 m2.4: `could_have_items_in_direction` compares one bound
 abbrev pub mayStand : Boundary → Boundary → List ℕ → Direction → Bool
 mayStand s e k LeftOf = mayStandLeft s k
 mayStand s e k RightOf = mayStandRight e k

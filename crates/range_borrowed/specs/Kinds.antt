@@ -5,7 +5,7 @@ use lib.Dec.{eqb}
 use Rattle.query_item.specs.declared.BoundaryKind.{BoundaryKind}
 use Rattle.query_item.specs.declared.BoundaryKind.the-variants.{UnboundedStart, UnboundedEnd, Inclusive, ExclusiveStart, ExclusiveEnd}
 
--- 01 Forms: the borrowed range holds two byte slices and kind numbers
+-- 01 form.10: the borrowed range holds two byte slices and kind numbers
 abbrev pub kindNumber : BoundaryKind → ℕ
 kindNumber UnboundedStart = 0
 kindNumber UnboundedEnd = 1
@@ -13,7 +13,7 @@ kindNumber Inclusive = 2
 kindNumber ExclusiveStart = 3
 kindNumber ExclusiveEnd = 4
 
--- the kind of a number; one above 4 is read as 4, and the C interface refuses it before it is read
+-- 01 form.10: the kind of a number; one above 4 is read as 4, and the C interface refuses it before it is read
 abbrev pub kindNumbered : ℕ → BoundaryKind
 kindNumbered n =
     cond (eqb n 0) UnboundedStart

@@ -1,7 +1,7 @@
--- The rows of document 01, "Thirteen rows to prove": what is given, by the definitions that the calls promise, and the result that the
--- document states. Keys are single bytes, except the empty one of P6 and the position keys of P9. `from_query_items` promises the covered
--- positions and that its pairs are canonical, so P9 and P10 give the positions that are covered, among some that are asked; that the pairs are
--- the stated ones is proved in proofs/Written.antt. Definitions only. Assumes nothing.
+-- The rows of document 01, "Thirteen rows to prove": what is given, by the definitions that the calls promise, and the result that the document
+-- states. Keys are single bytes, except the empty one of P6 and the position keys of P9. `from_query_items` promises the covered positions and
+-- that its pairs are canonical, so P9 and P10 give the positions that are covered, among some that are asked; that the pairs are the stated ones
+-- is proved in proofs/Written.antt. Definitions only. It serves 01 rows.1. Assumes nothing.
 use Prim.Native.Nat.{ℕ, _*_}
 use mathlib.Core.Bool.{Bool, false}
 use mathlib.Core.List.{List, [], _∷_, _++_, map}
