@@ -4,10 +4,10 @@ use mathlib.Core.List.{List}
 use mathlib.Core.Bool.{Bool, cond, _&&_}
 use Rattle.key_order.specs.declared.Ordering.{Ordering}
 use Rattle.key_order.specs.Boundary.{compareBoundaries}
-use Rattle.query_item.specs.declared.BoundaryKind.{BoundaryKind}
+use Rattle.boundary.specs.declared.BoundaryKind.{BoundaryKind}
 use Rattle.query_item.specs.declared.ItemWords.{ItemWords}
 use Rattle.query_item.specs.declared.MaybeItem.{MaybeItem}
-use Rattle.query_item.specs.Boundaries.{boundary, invertKind}
+use Rattle.boundary.specs.Kinds.{boundary, invertKind}
 use Rattle.range_borrowed.specs.declared.Direction.{Direction}
 use Rattle.range_borrowed.specs.declared.Direction.the-variants.{LeftOf, RightOf}
 use Rattle.range_borrowed.specs.Kinds.{kindNumbered}

@@ -8,6 +8,7 @@ ghost use Rattle.insert.specs.Insertion.{placed};
 ghost use Rattle.insert.specs.Answers.{laid};
 ghost use Rattle.insert.specs.Passes.{Ascending, Stay, keepsPlace, firstChanged, staysAt, pick, goesFirst, zeroItem, Moved, cleared};
 use crate::window::count_below;
+use boundary::is_less;
 use insert_merge::fate_of;
 use insert_merge::is_staying;
 use insert_order::order_items;
@@ -15,7 +16,6 @@ use item_words::item_at;
 use item_words::write_item;
 use query_item::ItemWords;
 use query_item::KeyAt;
-use query_item::boundary::is_less;
 
 // How many items at the front stay where they are. Those before the index from all stay: of them the ones below the result do.
 pub(crate) fn first_changed(

@@ -4,12 +4,12 @@ ghost use Prim.Native.Nat.{_≤_};
 ghost use Rattle.item_check.specs.Checks.{accepted};
 ghost use Rattle.insert_order.specs.Refusals.{inputVerdict};
 ghost use Rattle.insert.specs.Passes.{Ascending, Below, Stay, Asked};
+use boundary::is_less;
 use insert_order::ends_below;
 use insert_order::is_plain;
 use insert_order::order_items;
 use item_words::item_at;
 use query_item::ItemWords;
-use query_item::boundary::is_less;
 
 // The items from an index up to another.
 pub(crate) struct Window {

@@ -21,7 +21,7 @@ use query_item::ItemWords;
 use query_item::MaybeItem;
 use query_item::RangeSet;
 use query_item::RangeSetItem;
-use query_item::boundary::compare_in;
+use query_item::pooled::compare_in;
 
 // What becomes of an item of the list: the new one takes its place, it stays, or it is merged with the new one.
 pub enum Fate {

@@ -12,6 +12,8 @@ ghost use Rattle.item_check.specs.Checks.{verdictOf, accepted, firstBad};
 ghost use Rattle.insert_order.specs.Order.{orderItems, plain, sameItem, endsBelow};
 ghost use Rattle.insert_order.specs.Refusals.{bufferVerdict, orderVerdict, orderedVerdict, inputVerdict};
 ghost use Rattle.insert_order.specs.Passes.{followsPlain, isGreater, lastOrder, runStart, meetsPlain, lastPlain, repeats, quickClash};
+use boundary::is_equal;
+use boundary::is_less;
 use item_check::Checked;
 use item_check::MOST_ITEMS;
 use item_check::check_fault;
@@ -25,10 +27,8 @@ use item_words::query_item;
 use key_order::Ordering;
 use query_item::ItemWords;
 use query_item::RangeSet;
-use query_item::boundary::compare_in;
-use query_item::boundary::compare_keys;
-use query_item::boundary::is_equal;
-use query_item::boundary::is_less;
+use query_item::pooled::compare_in;
+use query_item::pooled::compare_keys;
 
 // inner: all that is refused before the room: the pool, the list, the new item.
 pub fn check_input(pool: &[u8], words: &[u32], count: usize, item: ItemWords) -> Checked

@@ -7,6 +7,7 @@ ghost use Rattle.intersect.specs.Pair.{before, meetSets, leftPart, leftO
 use crate::MaybeSet;
 use crate::PairAnswer;
 use crate::QueryItemIntersectionResult;
+use boundary::is_less;
 use item_check::Checked;
 use item_check::check_fault;
 use item_check::check_pool;
@@ -17,9 +18,8 @@ use query_item::ItemWords;
 use query_item::MaybeItem;
 use query_item::RangeSet;
 use query_item::RangeSetItem;
-use query_item::boundary::compare_in;
-use query_item::boundary::invert_in;
-use query_item::boundary::is_less;
+use query_item::pooled::compare_in;
+use query_item::pooled::invert_in;
 
 // What two items share, and what is left over of each (01 m3.1, m3.2, m3.6).
 pub fn intersect_items(pool: &[u8], ours: ItemWords, theirs: ItemWords) -> PairAnswer

@@ -12,6 +12,8 @@ ghost use Rattle.item_check.specs.Checks.{verdictOf, accepted, listVerdict};
 ghost use Rattle.intersect.specs.Pair.{meetSets, leftPart, leftOver, asItems};
 ghost use Rattle.intersect_many.specs.Lists.{convertAll, sharedItems, onlyItems, manyOf, bothVerdict, listsVerdict, passes, lacksRoom, countsOf, roomAnswer, manyAnswer, written};
 ghost use Rattle.intersect_many.specs.Sweep.{rightSet, restLeft, standOf, Put, Few, Turn};
+use boundary::is_at_most;
+use boundary::is_less;
 use intersect::pair::is_before;
 use intersect::pair::item_of;
 use intersect::pair::left_part;
@@ -27,10 +29,8 @@ use item_words::write_item;
 use key_order::Ordering;
 use query_item::MaybeItem;
 use query_item::RangeSet;
-use query_item::boundary::compare_in;
-use query_item::boundary::invert_in;
-use query_item::boundary::is_at_most;
-use query_item::boundary::is_less;
+use query_item::pooled::compare_in;
+use query_item::pooled::invert_in;
 
 // How many items the three lists have.
 pub struct ManyCounts {

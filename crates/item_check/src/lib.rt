@@ -4,16 +4,16 @@ ghost use mathlib.Core.Path.{_≡_};
 ghost use Rattle.query_item.specs.Items.{itemsFrom};
 ghost use Rattle.query_item.specs.Boundaries.{setAt, upright};
 ghost use Rattle.item_check.specs.Checks.{verdictOf, refused, hasStart, hasEnd, written, malformed, keyOut, outside, itemFault, uprightFault, faultAt, poolVerdict, shapeVerdict, firstBad, strictVerdict, wholeVerdict, listVerdict, singleVerdict, keysVerdict, setVerdict, checkVerdict};
+use boundary::is_at_most;
+use boundary::is_less;
 use item_words::ITEM_SIZE;
 use item_words::item_at;
 use item_words::query_item;
 use query_item::ItemWords;
 use query_item::KeyAt;
 use query_item::RangeSet;
-use query_item::boundary::compare_in;
-use query_item::boundary::is_at_most;
-use query_item::boundary::is_less;
-use query_item::boundary::key_of;
+use query_item::pooled::compare_in;
+use query_item::pooled::key_of;
 
 // A refusal: its number, the side (0 ours, 1 theirs), and the index of the item, pair or position.
 pub struct Refusal {

@@ -10,7 +10,7 @@ ghost use Rattle.query_item.specs.Items.{itemOf, itemSize, itemAt, queryItem, i
 use query_item::ItemWords;
 use query_item::KeyAt;
 use query_item::QueryItem;
-use query_item::boundary::least;
+use query_item::pooled::least;
 
 // The words of an item.
 pub const ITEM_SIZE: usize = 6;

@@ -12,7 +12,7 @@ use item_words::ITEM_SIZE;
 use item_words::write_item;
 use query_item::ItemWords;
 use query_item::KeyAt;
-use query_item::boundary::key_bytes;
+use query_item::pooled::key_bytes;
 
 // The pool's length and the two counts.
 pub struct FileParts {

@@ -17,7 +17,7 @@ use item_words::query_item;
 use lent_text::put;
 use query_item::KeyAt;
 use query_item::QueryItem;
-use query_item::boundary::key_bytes;
+use query_item::pooled::key_bytes;
 
 // The longest line of items with keys of at most 255 bytes: so many lent bytes are always room enough.
 pub const MAX_LINE: usize = 1044;

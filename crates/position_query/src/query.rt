@@ -30,7 +30,7 @@ use query_item::ItemWords;
 use query_item::KeyAt;
 use query_item::RangeSet;
 use query_item::RangeSetItem;
-use query_item::boundary::key_bytes;
+use query_item::pooled::key_bytes;
 
 // The range of an item: from a start on, below an end; or that a key is no position.
 enum ItemRange {

@@ -1,4 +1,3 @@
-pub mod Rungs
 pub mod Parts
 pub mod Words
 pub mod Fits

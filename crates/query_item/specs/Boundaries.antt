@@ -1,10 +1,13 @@
--- Boundaries of items: kinds beside bytes, their order, `invert`, and both conversions. Definitions only. Assumes nothing.
+-- Boundaries whose keys are parts of a pool: their order, `invert`, and both conversions. Definitions only. Assumes nothing.
 use Prim.Native.Nat.{ℕ}
 use mathlib.Core.List.{List}
-use mathlib.Core.Bool.{Bool, true, false, cond}
+use mathlib.Core.Bool.{Bool, cond}
 use Rattle.key_order.specs.declared.Ordering.{Ordering}
 use Rattle.key_order.specs.Order.{isAtMost}
-use Rattle.key_order.specs.Boundary.{Boundary, unboundedStart, unboundedEnd, atKey, exclusiveEnd, inclusive, exclusiveStart, compareBoundaries}
+use Rattle.key_order.specs.Boundary.{Boundary, compareBoundaries}
+use Rattle.boundary.specs.declared.BoundaryKind.{BoundaryKind}
+use Rattle.boundary.specs.declared.BoundaryKind.the-variants as kind
+use Rattle.boundary.specs.Kinds.{boundary, invertKind}
 use Rattle.query_item.specs.declared.KeyAt.{KeyAt}
 use Rattle.query_item.specs.declared.ItemWords.{ItemWords}
 use Rattle.query_item.specs.declared.QueryItem.{QueryItem}
@@ -20,22 +23,12 @@ use Rattle.query_item.specs.declared.QueryItem.the-variants.{
   RangeAfterTo,
   RangeAfterToInclusive,
 }
-use Rattle.query_item.specs.declared.BoundaryKind.{BoundaryKind}
-use Rattle.query_item.specs.declared.BoundaryKind.the-variants as kind
 use Rattle.query_item.specs.declared.RangeSetItem.{RangeSetItem}
 use Rattle.query_item.specs.declared.RangeSetItem.the-variants.{UnboundedStart, UnboundedEnd, Inclusive, ExclusiveStart, ExclusiveEnd}
 use Rattle.query_item.specs.declared.RangeSet.{RangeSet}
 use Rattle.query_item.specs.declared.MaybeItem.{MaybeItem}
 use Rattle.query_item.specs.declared.MaybeItem.the-variants.{NoItem, Item}
 use Rattle.query_item.specs.Items.{bytesOf, absent, same, queryItem, itemAt}
-
--- 01 change.3: the boundary enum with a borrowed key becomes a kind beside a lent slice
-abbrev pub boundary : BoundaryKind → List ℕ → Boundary
-boundary kind.UnboundedStart k = unboundedStart
-boundary kind.UnboundedEnd k = unboundedEnd
-boundary kind.Inclusive k = atKey k inclusive
-boundary kind.ExclusiveStart k = atKey k exclusiveStart
-boundary kind.ExclusiveEnd k = atKey k exclusiveEnd
 
 -- 01 change.1: a boundary of a pool as its kind and its key
 abbrev pub kindOf : RangeSetItem → BoundaryKind
@@ -58,15 +51,6 @@ boundaryOf pool x = boundary (kindOf x) (bytesOf pool (keyOf x))
 -- 01 keys.7, keys.8: the order of boundaries, of those of a pool
 abbrev pub compareIn : List ℕ → RangeSetItem → RangeSetItem → Ordering
 compareIn pool x y = compareBoundaries (boundaryOf pool x) (boundaryOf pool y)
-
--- 01 m2.2: `invert` makes Inclusive the exclusive boundary of the asked side (true: a start), either exclusive one Inclusive, and keeps the unbounded
-abbrev pub invertKind : BoundaryKind → Bool → BoundaryKind
-invertKind kind.UnboundedStart side = kind.UnboundedStart
-invertKind kind.UnboundedEnd side = kind.UnboundedEnd
-invertKind kind.Inclusive true = kind.ExclusiveStart
-invertKind kind.Inclusive false = kind.ExclusiveEnd
-invertKind kind.ExclusiveStart side = kind.Inclusive
-invertKind kind.ExclusiveEnd side = kind.Inclusive
 
 -- 01 m2.2: the boundary of a kind and a key of the pool
 abbrev pub withKey : BoundaryKind → KeyAt → RangeSetItem

@@ -7,8 +7,8 @@ use crate::MaybeItem;
 use crate::QueryItem;
 use crate::RangeSet;
 use crate::RangeSetItem;
-use crate::boundary::compare_keys;
-use crate::boundary::is_equal;
+use crate::pooled::compare_keys;
+use boundary::is_equal;
 
 impl QueryItem {
     // inner: the two boundaries of an item.

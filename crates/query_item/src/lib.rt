@@ -1,10 +1,10 @@
-// Module 2 of document 01: items and the boundaries of their ranges, and the types of its answers. `item_check` has the refusals and the
-// checks of items and lists, `item_ask` the calls that check an item and answer.
+// Module 2 of document 01: items and the boundaries of their ranges, and the types of its answers. `boundary` has boundaries as kinds beside
+// lent bytes, `item_check` the refusals and the checks of items and lists, `item_ask` the calls that check an item and answer.
 // Definitions: specs/Items.antt (the table), specs/Boundaries.antt (order, conversions). Laws: proofs/Laws.antt.
 //
 // A function marked "inner" is public only because other crates need it. It checks nothing: its definition covers every input.
-pub mod boundary;
 pub mod convert;
+pub mod pooled;
 
 // A key: a part of the pool.
 pub struct KeyAt {
@@ -24,15 +24,6 @@ pub enum QueryItem {
     RangeAfter(KeyAt),
     RangeAfterTo(KeyAt, KeyAt),
     RangeAfterToInclusive(KeyAt, KeyAt),
-}
-
-// What a boundary is, where its key is lent as bytes beside it. An unbounded one does without a key.
-pub enum BoundaryKind {
-    UnboundedStart,
-    UnboundedEnd,
-    Inclusive,
-    ExclusiveStart,
-    ExclusiveEnd,
 }
 
 // A boundary whose key is a part of the pool.

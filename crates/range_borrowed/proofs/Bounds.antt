@@ -10,8 +10,8 @@ use Rattle.key_order.specs.declared.Ordering.{Ordering}
 use Rattle.key_order.specs.declared.Ordering.the-variants.{Less, Equal, Greater}
 use Rattle.key_order.specs.Order.{compareNumbers, compareKeys, thenBy, isLess, isAtMost}
 use Rattle.key_order.specs.Boundary.{Boundary, unboundedStart, unboundedEnd, atKey, exclusiveEnd, inclusive, exclusiveStart, compareBoundaries}
-use Rattle.query_item.specs.declared.BoundaryKind.{BoundaryKind}
-use Rattle.query_item.specs.declared.BoundaryKind.the-variants as kind
+use Rattle.boundary.specs.declared.BoundaryKind.{BoundaryKind}
+use Rattle.boundary.specs.declared.BoundaryKind.the-variants as kind
 use Rattle.query_item.specs.declared.RangeSetItem.{RangeSetItem}
 use Rattle.query_item.specs.Items.{bytesOf, below}
 use Rattle.query_item.specs.Boundaries.{kindOf, keyOf, boundaryOf}

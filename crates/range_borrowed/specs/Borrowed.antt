@@ -6,7 +6,7 @@ use mathlib.Core.Bool.{Bool, true, _||_}
 use Rattle.key_order.specs.Order.{isEqual}
 use Rattle.key_order.specs.Boundary.{Boundary, unboundedStart, unboundedEnd, atKey, exclusiveStart, exclusiveEnd, compareBoundaries, between}
 use Rattle.query_item.specs.Items.{below}
-use Rattle.query_item.specs.Boundaries.{boundary}
+use Rattle.boundary.specs.Kinds.{boundary}
 use Rattle.range_borrowed.specs.declared.Direction.{Direction}
 use Rattle.range_borrowed.specs.declared.Direction.the-variants.{LeftOf, RightOf}
 use Rattle.range_borrowed.specs.declared.KeyContainmentResult.{KeyContainmentResult}

@@ -2,8 +2,8 @@
 use Prim.Native.Nat.{ℕ}
 use mathlib.Core.Bool.{cond}
 use lib.Dec.{eqb}
-use Rattle.query_item.specs.declared.BoundaryKind.{BoundaryKind}
-use Rattle.query_item.specs.declared.BoundaryKind.the-variants.{UnboundedStart, UnboundedEnd, Inclusive, ExclusiveStart, ExclusiveEnd}
+use Rattle.boundary.specs.declared.BoundaryKind.{BoundaryKind}
+use Rattle.boundary.specs.declared.BoundaryKind.the-variants.{UnboundedStart, UnboundedEnd, Inclusive, ExclusiveStart, ExclusiveEnd}
 
 -- 01 form.10: the borrowed range holds two byte slices and kind numbers
 abbrev pub kindNumber : BoundaryKind → ℕ

@@ -6,16 +6,16 @@ ghost use Rattle.query_item.specs.Items.{bytesOf};
 ghost use Rattle.query_item.specs.Boundaries.{rangeOf, keyOf, kindOf, boundaryOf};
 ghost use Rattle.range_borrowed.specs.Kinds.{kindNumber, kindNumbered};
 ghost use Rattle.range_borrowed.specs.Borrowed.{lent, containmentBetween, mayStand};
+use boundary::BoundaryKind;
+use boundary::compare_boundaries;
+use boundary::is_equal;
+use boundary::is_less;
 use item_words::query_item;
 use key_order::compare;
-use query_item::BoundaryKind;
 use query_item::ItemWords;
-use query_item::boundary::compare_boundaries;
-use query_item::boundary::is_equal;
-use query_item::boundary::is_less;
-use query_item::boundary::key_bytes;
-use query_item::boundary::key_of;
-use query_item::boundary::kind_of;
+use query_item::pooled::key_bytes;
+use query_item::pooled::key_of;
+use query_item::pooled::kind_of;
 
 // A range by its two keys, lent, and the numbers of their kinds.
 pub struct RangeSetBorrowed<'a> {

@@ -9,13 +9,13 @@ use lib.ListN.{length}
 use Rattle.key_order.specs.declared.Ordering.{Ordering}
 use Rattle.key_order.specs.declared.Ordering.the-variants.{Less}
 use Rattle.key_order.specs.Boundary.{compareBoundaries}
-use Rattle.query_item.specs.declared.BoundaryKind.the-variants.{ExclusiveEnd, Inclusive, ExclusiveStart}
+use Rattle.boundary.specs.declared.BoundaryKind.the-variants.{ExclusiveEnd, Inclusive, ExclusiveStart}
 use Rattle.query_item.specs.declared.KeyAt.{KeyAt}
 use Rattle.query_item.specs.declared.ItemWords.{ItemWords}
 use Rattle.query_item.specs.declared.QueryItem.{QueryItem}
 use Rattle.query_item.specs.declared.MaybeItem.{MaybeItem}
 use Rattle.query_item.specs.Items.{keyAt, absent, itemWords, wordsOf, flatAll}
-use Rattle.query_item.specs.Boundaries.{boundary}
+use Rattle.boundary.specs.Kinds.{boundary}
 use Rattle.item_check.specs.Checks.{Answer, answered, refused, Verdict, itemsOf}
 use Rattle.intersect_many.specs.declared.ManyCounts.{ManyCounts}
 use Rattle.intersect.specs.declared.QueryItemIntersectionResult.{QueryItemIntersectionResult}

@@ -3,14 +3,14 @@ use crate::Cursor;
 use crate::Met;
 use crate::on;
 use crate::part;
+use boundary::is_equal;
 use item_check::Refusal;
 use item_words::item_at;
 use item_words::words_of;
 use query_item::ItemWords;
 use query_item::KeyAt;
 use query_item::MaybeItem;
-use query_item::boundary::is_equal;
-use query_item::boundary::key_bytes;
+use query_item::pooled::key_bytes;
 
 // How far the recorded answer is read, and whether all was the same so far.
 pub struct Held {

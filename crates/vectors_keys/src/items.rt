@@ -1,15 +1,15 @@
 // Calls on an item, or on two boundaries, in a pool.
+use boundary::BoundaryKind;
 use item_ask::Containment;
 use item_ask::InDirection;
 use item_ask::ItemAnswer;
 use item_ask::RangeAnswer;
-use query_item::BoundaryKind;
 use query_item::KeyAt;
 use query_item::MaybeItem;
 use query_item::RangeSet;
 use query_item::RangeSetItem;
-use query_item::boundary::key_of;
-use query_item::boundary::kind_of;
+use query_item::pooled::key_of;
+use query_item::pooled::kind_of;
 use range_borrowed::Direction;
 use range_borrowed::KeyContainmentResult;
 use range_borrowed::kind_number;

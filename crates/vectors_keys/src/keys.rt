@@ -1,7 +1,7 @@
 // Calls on keys and on boundaries whose keys are lent bytes.
+use boundary::compare_boundaries;
+use boundary::invert;
 use key_order::Ordering;
-use query_item::boundary::compare_boundaries;
-use query_item::boundary::invert;
 use range_borrowed::kind_number;
 use range_borrowed::kind_numbered;
 use vectors::Cursor;

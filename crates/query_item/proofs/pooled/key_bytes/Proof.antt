@@ -1,8 +1,8 @@
--- `query_item::boundary::key_bytes` meets its contract: a part clipped to the pool is what `take` and `drop` give. Assumes nothing.
+-- `query_item::pooled::key_bytes` meets its contract: a part clipped to the pool is what `take` and `drop` give. Assumes nothing.
 use Rattle.query_item.proofs.Parts.{part-clipped}
 use borrow.Author.Needs.{needs}
-use Rattle.query_item.proofs.boundary.key_bytes.Statement.{statement}
-use Rattle.query_item.proofs.boundary.key_bytes.Tie as tie
+use Rattle.query_item.proofs.pooled.key_bytes.Statement.{statement}
+use Rattle.query_item.proofs.pooled.key_bytes.Tie as tie
 
 returns : tie.Need-returns
 returns c = part-clipped _ _ _ _ _ (c .before .before .before .least .ensures) (c .before .least2 .ensures)

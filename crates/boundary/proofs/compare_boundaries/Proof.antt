@@ -1,10 +1,10 @@
--- `query_item::boundary::compare_boundaries` meets its contract: rungs of kinds, and between two that have keys the keys first.
+-- `boundary::compare_boundaries` meets its contract: rungs of kinds, and between two that have keys the keys first.
 -- Assumes nothing.
 use mathlib.Core.Path.{_∙_}
 use borrow.Author.Needs.{needs}
-use Rattle.query_item.proofs.Rungs.{by-keys, by-kinds}
-use Rattle.query_item.proofs.boundary.compare_boundaries.Statement.{statement}
-use Rattle.query_item.proofs.boundary.compare_boundaries.Tie as tie
+use Rattle.boundary.proofs.Rungs.{by-keys, by-kinds}
+use Rattle.boundary.proofs.compare_boundaries.Statement.{statement}
+use Rattle.boundary.proofs.compare_boundaries.Tie as tie
 
 -- both have keys
 returns : tie.Need-returns

@@ -1,8 +1,8 @@
--- `query_item::boundary::compare_in` meets its contract: the order of the kinds and keys of both boundaries. Assumes nothing.
+-- `query_item::pooled::compare_in` meets its contract: the order of the kinds and keys of both boundaries. Assumes nothing.
 use mathlib.Core.Path.{_∙_}
 use borrow.Author.Needs.{needs}
-use Rattle.query_item.proofs.boundary.compare_in.Statement.{statement}
-use Rattle.query_item.proofs.boundary.compare_in.Tie as tie
+use Rattle.query_item.proofs.pooled.compare_in.Statement.{statement}
+use Rattle.query_item.proofs.pooled.compare_in.Tie as tie
 
 returns : tie.Need-returns
 returns c =

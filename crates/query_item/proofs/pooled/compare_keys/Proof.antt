@@ -1,8 +1,8 @@
--- `query_item::boundary::compare_keys` meets its contract: the order of the bytes of both keys. Assumes nothing.
+-- `query_item::pooled::compare_keys` meets its contract: the order of the bytes of both keys. Assumes nothing.
 use mathlib.Core.Path.{_∙_}
 use borrow.Author.Needs.{needs}
-use Rattle.query_item.proofs.boundary.compare_keys.Statement.{statement}
-use Rattle.query_item.proofs.boundary.compare_keys.Tie as tie
+use Rattle.query_item.proofs.pooled.compare_keys.Statement.{statement}
+use Rattle.query_item.proofs.pooled.compare_keys.Tie as tie
 
 returns : tie.Need-returns
 returns c = c .compare .ensures ∙ rw (c .before .key-bytes2 .ensures, c .before .before .key-bytes .ensures)

@@ -1,8 +1,8 @@
--- `query_item::boundary::invert_in` meets its contract: the inverted kind, at the same key. Assumes nothing.
+-- `query_item::pooled::invert_in` meets its contract: the inverted kind, at the same key. Assumes nothing.
 use mathlib.Core.Path.{_∙_}
 use borrow.Author.Needs.{needs}
-use Rattle.query_item.proofs.boundary.invert_in.Statement.{statement}
-use Rattle.query_item.proofs.boundary.invert_in.Tie as tie
+use Rattle.query_item.proofs.pooled.invert_in.Statement.{statement}
+use Rattle.query_item.proofs.pooled.invert_in.Tie as tie
 
 returns : tie.Need-returns
 returns c = c .with-key .ensures ∙ rw (c .before .key-of .ensures, c .before .before .invert .ensures, c .before .before .before .kind-of .ensures)

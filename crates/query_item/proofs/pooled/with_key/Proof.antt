@@ -1,7 +1,7 @@
--- `query_item::boundary::with_key` meets its contract: each arm returns its boundary. Assumes nothing.
+-- `query_item::pooled::with_key` meets its contract: each arm returns its boundary. Assumes nothing.
 use borrow.Author.Needs.{needs}
-use Rattle.query_item.proofs.boundary.with_key.Statement.{statement}
-use Rattle.query_item.proofs.boundary.with_key.Tie as tie
+use Rattle.query_item.proofs.pooled.with_key.Statement.{statement}
+use Rattle.query_item.proofs.pooled.with_key.Tie as tie
 
 pub with-key-spec : {M : Type 1} → statement M
 with-key-spec =

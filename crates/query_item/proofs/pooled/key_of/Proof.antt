@@ -1,7 +1,7 @@
--- `query_item::boundary::key_of` meets its contract: each arm returns its key, or the absent one. Assumes nothing.
+-- `query_item::pooled::key_of` meets its contract: each arm returns its key, or the absent one. Assumes nothing.
 use borrow.Author.Needs.{needs}
-use Rattle.query_item.proofs.boundary.key_of.Statement.{statement}
-use Rattle.query_item.proofs.boundary.key_of.Tie as tie
+use Rattle.query_item.proofs.pooled.key_of.Statement.{statement}
+use Rattle.query_item.proofs.pooled.key_of.Tie as tie
 
 pub key-of-spec : {M : Type 1} → statement M
 key-of-spec =

@@ -6,10 +6,10 @@ use mathlib.Core.Bool.{true, false, _&&_, cond}
 use Rattle.key_order.specs.declared.Ordering.the-variants.{Equal}
 use Rattle.key_order.specs.Order.{compareNumbers, compareKeys, thenBy}
 use Rattle.key_order.specs.Boundary.{compareBoundaries}
-use Rattle.query_item.specs.declared.BoundaryKind.{BoundaryKind}
-use Rattle.query_item.specs.declared.BoundaryKind.the-variants.{UnboundedStart, UnboundedEnd, Inclusive, ExclusiveStart, ExclusiveEnd}
-use Rattle.query_item.specs.Boundaries.{boundary}
-use Rattle.query_item.specs.Rungs.{rung, bounded}
+use Rattle.boundary.specs.declared.BoundaryKind.{BoundaryKind}
+use Rattle.boundary.specs.declared.BoundaryKind.the-variants.{UnboundedStart, UnboundedEnd, Inclusive, ExclusiveStart, ExclusiveEnd}
+use Rattle.boundary.specs.Kinds.{boundary}
+use Rattle.boundary.specs.Rungs.{rung, bounded}
 
 pub compare-by-rungs : (k l : BoundaryKind) (a b : List ℕ)
     → compareBoundaries (boundary k a) (boundary l b)

@@ -3,8 +3,8 @@
 use Prim.Native.Nat.{ℕ}
 use mathlib.Core.Bool.{Bool, _&&_}
 use lib.Dec.{ltb}
-use Rattle.query_item.specs.declared.BoundaryKind.{BoundaryKind}
-use Rattle.query_item.specs.declared.BoundaryKind.the-variants.{UnboundedStart, UnboundedEnd, Inclusive, ExclusiveStart, ExclusiveEnd}
+use Rattle.boundary.specs.declared.BoundaryKind.{BoundaryKind}
+use Rattle.boundary.specs.declared.BoundaryKind.the-variants.{UnboundedStart, UnboundedEnd, Inclusive, ExclusiveStart, ExclusiveEnd}
 
 abbrev pub rung : BoundaryKind → ℕ
 rung UnboundedStart = 0

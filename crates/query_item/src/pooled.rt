@@ -1,0 +1,98 @@
+// Boundaries whose keys are parts of a pool: their order, and `invert`. The crate `boundary` has the same on a kind beside lent bytes.
+ghost use mathlib.Core.Path.{_≡_};
+ghost use Prim.Native.Nat.{_+_, _<_, min};
+ghost use Rattle.key_order.specs.Order.{compareKeys};
+ghost use Rattle.query_item.specs.Items.{bytesOf};
+ghost use Rattle.query_item.specs.Boundaries.{kindOf, keyOf, compareIn, withKey, invertOf};
+use crate::KeyAt;
+use crate::RangeSetItem;
+use boundary::BoundaryKind;
+use boundary::compare_boundaries;
+use boundary::invert;
+use key_order::Ordering;
+
+// inner: the bytes of a key; what reaches past the pool is not there.
+pub fn key_bytes(pool: &[u8], key: KeyAt) -> &[u8]
+    ensures { λ r. ⌜ now r ≡ bytesOf (now (pool .entry)) key ⌝ }
+{
+    let from = least(key.offset as usize, pool.len());
+    let to = from + least(key.length as usize, pool.len() - from);
+    &pool[from..to]
+}
+
+// inner: the smaller of two counts.
+pub fn least(x: usize, y: usize) -> usize
+    ensures { λ r. ⌜ r ≡ min x y ⌝ }
+{
+    if x < y { x } else { y }
+}
+
+// inner: how two keys of a pool stand.
+pub fn compare_keys(pool: &[u8], a: KeyAt, b: KeyAt) -> Ordering
+    ensures { λ r. ⌜ r ≡ compareKeys (bytesOf (now (pool .entry)) a) (bytesOf (now (pool .entry)) b) ⌝ }
+{
+    key_order::compare(key_bytes(pool, a), key_bytes(pool, b))
+}
+
+// inner: how two boundaries of a pool stand.
+pub fn compare_in(pool: &[u8], x: RangeSetItem, y: RangeSetItem) -> Ordering
+    ensures { λ r. ⌜ r ≡ compareIn (now (pool .entry)) x y ⌝ }
+{
+    compare_boundaries(
+        kind_of(x),
+        key_bytes(pool, key_of(x)),
+        kind_of(y),
+        key_bytes(pool, key_of(y)),
+    )
+}
+
+// inner: the kind of a boundary.
+pub fn kind_of(x: RangeSetItem) -> BoundaryKind
+    ensures { λ r. ⌜ r ≡ kindOf x ⌝ }
+{
+    match x {
+        RangeSetItem::UnboundedStart => BoundaryKind::UnboundedStart,
+        RangeSetItem::UnboundedEnd => BoundaryKind::UnboundedEnd,
+        RangeSetItem::Inclusive(_) => BoundaryKind::Inclusive,
+        RangeSetItem::ExclusiveStart(_) => BoundaryKind::ExclusiveStart,
+        RangeSetItem::ExclusiveEnd(_) => BoundaryKind::ExclusiveEnd,
+    }
+}
+
+// inner: the key of a boundary, the part of no bytes at 0 where it has none.
+pub fn key_of(x: RangeSetItem) -> KeyAt
+    ensures { λ r. ⌜ r ≡ keyOf x ⌝ }
+{
+    match x {
+        RangeSetItem::UnboundedStart => KeyAt {
+            offset: 0,
+            length: 0,
+        },
+        RangeSetItem::UnboundedEnd => KeyAt {
+            offset: 0,
+            length: 0,
+        },
+        RangeSetItem::Inclusive(k) => k,
+        RangeSetItem::ExclusiveStart(k) => k,
+        RangeSetItem::ExclusiveEnd(k) => k,
+    }
+}
+
+fn with_key(kind: BoundaryKind, key: KeyAt) -> RangeSetItem
+    ensures { λ r. ⌜ r ≡ withKey kind key ⌝ }
+{
+    match kind {
+        BoundaryKind::UnboundedStart => RangeSetItem::UnboundedStart,
+        BoundaryKind::UnboundedEnd => RangeSetItem::UnboundedEnd,
+        BoundaryKind::Inclusive => RangeSetItem::Inclusive(key),
+        BoundaryKind::ExclusiveStart => RangeSetItem::ExclusiveStart(key),
+        BoundaryKind::ExclusiveEnd => RangeSetItem::ExclusiveEnd(key),
+    }
+}
+
+// inner: the inverted boundary, at the same key.
+pub fn invert_in(x: RangeSetItem, is_start: bool) -> RangeSetItem
+    ensures { λ r. ⌜ r ≡ invertOf x «is_start» ⌝ }
+{
+    with_key(invert(kind_of(x), is_start), key_of(x))
+}
