@@ -1,7 +1,9 @@
 // Items as two boundaries, and back. Items need not be upright.
 ghost use mathlib.Core.Path.{_≡_};
+ghost use mathlib.Core.List.{List};
+ghost use Prim.Native.Nat.{ℕ};
 ghost use Rattle.query_item.specs.Boundaries.{toRangeSet, toQueryItem, itemBetween};
-ghost use Rattle.query_item.specs.declared.RangeSetItem.the-variants.{Inclusive};
+ghost use Rattle.query_item.specs.declared.RangeSetItem.the-variants.{UnboundedStart, Inclusive, ExclusiveStart};
 use crate::KeyAt;
 use crate::MaybeItem;
 use crate::QueryItem;
@@ -68,33 +70,25 @@ impl RangeSet {
         let start = self.start;
         let end = self.end;
         match start {
-            RangeSetItem::Inclusive(a) => match end {
-                RangeSetItem::Inclusive(b) => inclusive_item(pool, a, b),
-                RangeSetItem::ExclusiveEnd(b) => MaybeItem::Item(QueryItem::Range(a, b)),
-                RangeSetItem::UnboundedEnd => MaybeItem::Item(QueryItem::RangeFrom(a)),
-                RangeSetItem::UnboundedStart => MaybeItem::NoItem,
-                RangeSetItem::ExclusiveStart(_) => MaybeItem::NoItem,
-            },
-            RangeSetItem::ExclusiveStart(a) => match end {
-                RangeSetItem::Inclusive(b) => MaybeItem::Item(QueryItem::RangeAfterToInclusive(
-                    a,
-                    b,
-                )),
-                RangeSetItem::ExclusiveEnd(b) => MaybeItem::Item(QueryItem::RangeAfterTo(a, b)),
-                RangeSetItem::UnboundedEnd => MaybeItem::Item(QueryItem::RangeAfter(a)),
-                RangeSetItem::UnboundedStart => MaybeItem::NoItem,
-                RangeSetItem::ExclusiveStart(_) => MaybeItem::NoItem,
-            },
-            RangeSetItem::UnboundedStart => match end {
-                RangeSetItem::Inclusive(b) => MaybeItem::Item(QueryItem::RangeToInclusive(b)),
-                RangeSetItem::ExclusiveEnd(b) => MaybeItem::Item(QueryItem::RangeTo(b)),
-                RangeSetItem::UnboundedEnd => MaybeItem::Item(QueryItem::RangeFull),
-                RangeSetItem::UnboundedStart => MaybeItem::NoItem,
-                RangeSetItem::ExclusiveStart(_) => MaybeItem::NoItem,
-            },
+            RangeSetItem::Inclusive(a) => item_from(pool, a, end),
+            RangeSetItem::ExclusiveStart(a) => item_after(a, end),
+            RangeSetItem::UnboundedStart => item_to(end),
             RangeSetItem::UnboundedEnd => MaybeItem::NoItem,
             RangeSetItem::ExclusiveEnd(_) => MaybeItem::NoItem,
         }
+    }
+}
+
+// The item that starts with the key a, by its end.
+fn item_from(pool: &[u8], a: KeyAt, end: RangeSetItem) -> MaybeItem
+    ensures { λ r. ⌜ r ≡ itemBetween (now (pool .entry)) (Inclusive a) end ⌝ }
+{
+    match end {
+        RangeSetItem::Inclusive(b) => inclusive_item(pool, a, b),
+        RangeSetItem::ExclusiveEnd(b) => MaybeItem::Item(QueryItem::Range(a, b)),
+        RangeSetItem::UnboundedEnd => MaybeItem::Item(QueryItem::RangeFrom(a)),
+        RangeSetItem::UnboundedStart => MaybeItem::NoItem,
+        RangeSetItem::ExclusiveStart(_) => MaybeItem::NoItem,
     }
 }
 
@@ -106,4 +100,30 @@ fn inclusive_item(pool: &[u8], a: KeyAt, b: KeyAt) -> MaybeItem
         return MaybeItem::Item(QueryItem::Key(a));
     }
     MaybeItem::Item(QueryItem::RangeInclusive(a, b))
+}
+
+// The item that starts just past the key a, by its end. No bytes decide: it is that of every pool.
+fn item_after(a: KeyAt, end: RangeSetItem) -> MaybeItem
+    ensures { λ r. ⌜ ((pool : List ℕ) → r ≡ itemBetween pool (ExclusiveStart a) end) ⌝ }
+{
+    match end {
+        RangeSetItem::Inclusive(b) => MaybeItem::Item(QueryItem::RangeAfterToInclusive(a, b)),
+        RangeSetItem::ExclusiveEnd(b) => MaybeItem::Item(QueryItem::RangeAfterTo(a, b)),
+        RangeSetItem::UnboundedEnd => MaybeItem::Item(QueryItem::RangeAfter(a)),
+        RangeSetItem::UnboundedStart => MaybeItem::NoItem,
+        RangeSetItem::ExclusiveStart(_) => MaybeItem::NoItem,
+    }
+}
+
+// The item that starts before every key, by its end, in every pool.
+fn item_to(end: RangeSetItem) -> MaybeItem
+    ensures { λ r. ⌜ ((pool : List ℕ) → r ≡ itemBetween pool UnboundedStart end) ⌝ }
+{
+    match end {
+        RangeSetItem::Inclusive(b) => MaybeItem::Item(QueryItem::RangeToInclusive(b)),
+        RangeSetItem::ExclusiveEnd(b) => MaybeItem::Item(QueryItem::RangeTo(b)),
+        RangeSetItem::UnboundedEnd => MaybeItem::Item(QueryItem::RangeFull),
+        RangeSetItem::UnboundedStart => MaybeItem::NoItem,
+        RangeSetItem::ExclusiveStart(_) => MaybeItem::NoItem,
+    }
 }

@@ -1,50 +1,31 @@
--- `query_item::RangeSet::to_query_item` meets its contract: each pair of arms returns what the table has for it. Assumes nothing.
+-- `query_item::RangeSet::to_query_item` meets its contract: each start has its function, or makes no item. Assumes nothing.
 use borrow.Author.Needs.{needs}
 use Rattle.query_item.proofs.RangeSet.to_query_item.Statement.{statement}
 use Rattle.query_item.proofs.RangeSet.to_query_item.Tie as tie
 
 returns : tie.Need-returns
-returns c = rw (c .before .before .before .before .before .start .given .1, c .before .before .end .given .1) (c .inclusive-item .ensures)
+returns c = rw (c .before .before .start .given .1) (c .item-from .ensures)
+
+returns-2 : tie.Need-returns-2
+returns-2 c = rw (c .before .before .start2 .given .1) (c .item-after .ensures _)
+
+returns-3 : tie.Need-returns-3
+returns-3 c = rw (c .before .enum-told .given .1) (c .item-to .ensures _)
 
 pub to-query-item-spec : {M : Type 1} → statement M
 to-query-item-spec =
     tie.close
     (tie.spec
     (λ c. search needs)
+    (λ c κs. search needs)
+    (λ c. search needs)
+    (λ c κs. search needs)
     (λ c. search needs)
     (λ c κs. search needs)
     (λ c. search needs)
     (λ c. search needs)
-    (λ c. search needs)
-    (λ c. search needs)
-    (λ c. search needs)
-    (λ c. search needs)
-    (λ c. search needs)
-    (λ c. search needs)
-    (λ c. search needs)
-    (λ c. search needs)
-    (λ c. search needs)
-    (λ c. search needs)
-    (λ c. search needs)
-    (λ c. search needs)
-    (λ c. search needs)
-    (λ c. search needs)
-    (λ c. search needs)
-    (λ c. search needs)
     returns
-    (λ c. cc)
-    (λ c. cc)
-    (λ c. search needs)
-    (λ c. search needs)
-    (λ c. cc)
-    (λ c. cc)
-    (λ c. cc)
-    (λ c. search needs)
-    (λ c. search needs)
-    (λ c. cc)
-    (λ c. cc)
-    (λ c. cc)
-    (λ c. search needs)
-    (λ c. search needs)
+    returns-2
+    returns-3
     (λ c. search needs)
     (λ c. search needs))
