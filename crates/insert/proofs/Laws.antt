@@ -10,6 +10,7 @@ use Rattle.key_order.specs.Order.{isLess}
 use Rattle.query_item.specs.declared.ItemWords.{ItemWords}
 use Rattle.query_item.specs.Items.{itemSize, itemsFrom, holds, queryItem, holdsAny}
 use Rattle.item_check.specs.Checks.{accepted, uprightFault}
+use Rattle.item_check.proofs.Laws.{refused-apart}
 use Rattle.insert_order.specs.Order.{orderItems}
 use Rattle.insert_order.specs.Refusals.{orderVerdict, orderedVerdict}
 use Rattle.insert_order.proofs.Ordered.{Among}
@@ -27,15 +28,12 @@ use Rattle.insert.proofs.Ordered.{order-inserted}
 
 -- ---- the answer
 
--- the numbers that an answer stands for tell any two answers apart
+-- the numbers that an answer stands for tell any two answers apart (01 tight.1)
 pub answer-apart : (r s : Inserted) → insertedOf r ≡ insertedOf s → r ≡ s
 answer-apart (Count m) (Count n) e = cc
-answer-apart (Count m) (Refused s) e = absurd (let z : _≡_ {A = ℕ} 0 1 = cc in omega arith)
-answer-apart (Refused r) (Count n) e = absurd (let z : _≡_ {A = ℕ} 0 1 = cc in omega arith)
-answer-apart (Refused r) (Refused s) e = go (r .number) (r .side) (r .index) (cc) (cc) (cc)
-  where
-    go : (n d i : ℕ) → n ≡ s .number → d ≡ s .side → i ≡ s .index → Refused (record { number = n; side = d; index = i }) ≡ Refused s
-    go n d i p q t = rw (p, q, t)
+answer-apart (Count m) (Refused s) e = cc
+answer-apart (Refused r) (Count n) e = cc
+answer-apart (Refused r) (Refused s) e = ap Refused (refused-apart r s e)
 
 -- ---- the list
 

@@ -11,3 +11,4 @@ pub mod Sound
 pub mod Demanded
 pub mod Demands
 pub mod Stands
+pub mod Apart

@@ -1,3 +1,4 @@
 pub mod Laws
 pub mod Lines
 mod Examples
+pub mod Apart

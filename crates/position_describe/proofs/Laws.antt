@@ -10,7 +10,7 @@ use native.Mathlib.Omega.{arith}
 use lib.ListN.{length, getD, take, drop, set, length-append, length-take, drop-of-length-le}
 use lib.Seq.{sets, sets-eq, drop-cons, getD-take}
 use borrow.Author.Tests.{lt-ltb, le-ltb}
-use Rattle.item_check.specs.Checks.{Answer, answered, refused}
+use Rattle.item_check.proofs.Laws.{refused-apart}
 use Rattle.position_mismatch.specs.declared.PositionMismatch.{PositionMismatch}
 use Rattle.position_mismatch.specs.Reports.{mostReported}
 use Rattle.position_describe.specs.declared.Described.{Described}
@@ -21,18 +21,11 @@ use Rattle.lent_text.proofs.Laws.{decimal-few, decimal-two, stored-append, stor
 
 -- ---- answers are told apart
 
-never : {X : Type 0} {n a s i : ℕ} → _≡_ {A = Answer ℕ} (answered n) (refused a s i) → X
-never e = let z : _≡_ {A = ℕ} 0 1 = cc in absurd (omega arith)
-
 pub described-apart : (r s : Described) → describedOf r ≡ describedOf s → r ≡ s
-described-apart (Bytes m) (Bytes n) e = let h : m ≡ n = cc in ap Bytes h
-described-apart (Bytes m) (Refused s) e = never e
-described-apart (Refused r) (Bytes n) e = never (sym e)
-described-apart (Refused r) (Refused s) e =
-    let n : r .number ≡ s .number = cc in
-    let d : r .side ≡ s .side = cc in
-    let j : r .index ≡ s .index = cc in
-    λ i. Refused (record { number = n i; side = d i; index = j i })
+described-apart (Bytes m) (Bytes n) e = cc
+described-apart (Bytes m) (Refused s) e = cc
+described-apart (Refused r) (Bytes n) e = cc
+described-apart (Refused r) (Refused s) e = ap Refused (refused-apart r s e)
 
 -- ---- how long the text is
 
