@@ -1,7 +1,7 @@
 -- What `piece` is, by the order of its two numbers, and what a piece, which may be empty, shares and keeps. Assumes nothing.
 use Prim.Native.Nat.{ℕ, _≤_, _<_, min, max}
 use mathlib.Core.Path.{_≡_, refl}
-use mathlib.Core.List.{List, [], _∷_, append-nil}
+use mathlib.Core.List.{List, [], _∷_, _++_, append-nil}
 use native.Mathlib.Decide.{decLt}
 use native.Mathlib.Omega.{arith}
 use borrow.Author.Tests.{lt-ltb, le-ltb}
@@ -30,7 +30,9 @@ module _ (s e : ℕ) where
 meets-empty : (a : Interval) (B : List Interval) → a .1 ≤ a .0 → meets a B ≡ []
 unfolding meetsOf meet
 meets-empty a [] h = refl
-meets-empty a (b ∷ B) h = rw (piece-none (max (a .0) (b .0)) (min (a .1) (b .1)) (omega arith)) (meets-empty a B h)
+meets-empty a (b ∷ B) h =
+    let none : meet a b ≡ [] = piece-none (max (a .0) (b .0)) (min (a .1) (b .1)) (omega arith) in
+    rw none (meets-empty a B h)
 
 module _ (s e : ℕ) where
   pub shared-piece : (B : List Interval) → shared (piece s e) B ≡ meets (s, e) B
@@ -53,5 +55,6 @@ module _ (s e : ℕ) where
     | yes h ↦ rw (piece-some s e h, append-nil)
     | no h ↦
         let p : piece s e ≡ [] = piece-none s e (omega arith) in
-        rw (p, piece-none s (min e (b .0)) (omega arith), piece-none (max s (b .1)) e (omega arith))
+        let parts : cut (s, e) b ≡ piece s (min e (b .0)) ++ piece (max s (b .1)) e = refl in
+        rw (p, parts, piece-none s (min e (b .0)) (omega arith), piece-none (max s (b .1)) e (omega arith))
   ]

@@ -37,8 +37,8 @@ pub fn missing_from_spans(intervals: &[u64], spans: &[Span]) -> Compared
     finish(intervals, walk)
 }
 
-// The same of an array, for callers that lend no slice of spans. A shorter list is filled up with empty spans at its last end, which change
-// no answer (`answer-filled`) (01 m6.11).
+// inner: the same of an array, for callers that lend no slice of spans. A shorter list is filled up with empty spans at its last end, which
+// change no answer (`answer-filled`) (01 m6.11).
 pub fn missing_from_few_spans(intervals: &[u64], spans: [Span; FEW_SPANS]) -> Compared
     ensures { λ r. ⌜ comparedOf r ≡ spansAnswer (now (intervals .entry)) (spanPairs spans) ⌝ }
     ensures { λ r. ⌜ r .report ≡ reportIn (spansAnswer (now (intervals .entry)) (spanPairs spans)) ⌝ }

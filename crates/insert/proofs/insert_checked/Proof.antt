@@ -1,8 +1,14 @@
 -- `insert::insert_checked` meets its contract: there is no room and nothing is written, or the tail from the first change on is lent on and
--- comes back rewritten. Assumes nothing.
+-- comes back rewritten. The test of the room is stated before the answer is rewritten by it. Assumes nothing.
+use Prim.Native.Nat.{_+_, _/_}
+use mathlib.Core.Path.{_≡_}
+use mathlib.Core.Bool.{true, _||_}
 use native.Mathlib.Omega.{arith}
+use lib.ListN.{length}
+use lib.Dec.{ltb}
 use borrow.Author.Needs.{needs}
-use Rattle.query_item.specs.Items.{itemsFrom}
+use Rattle.query_item.specs.Items.{itemSize, itemsFrom}
+use Rattle.item_check.specs.Checks.{mostItems}
 use Rattle.insert.proofs.Written.{length-items}
 use Rattle.insert.proofs.Windows.{ascending}
 use Rattle.insert.proofs.Tails.{length-staying, first-in, tail-room, tail-stay, tail-laid, after-is, after-placed, room-is}
@@ -26,8 +32,12 @@ add-after c =
 
 returns : tie.Need-returns
 returns c =
-    let after = after-is _ _ _ (c .before .before .before .find-result .ensures .1) in
-    (rw (← after, c .if1 .taken), rw (← after, c .if1 .taken))
+    let found = c .before .before .before in
+    let words = found .before .before .before .before .before .before .args .words .now in
+    let count = found .find-result .result .stay + 1 in
+    let no-room : ltb (length words / itemSize) count || ltb mostItems count ≡ true = c .if1 .taken in
+    let after = after-is _ _ _ (found .find-result .ensures .1) in
+    (rw (← after, no-room), rw (← after, no-room))
 
 first-changed-requires : tie.Need-first-changed-requires
 first-changed-requires c κs =

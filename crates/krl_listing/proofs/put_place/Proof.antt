@@ -1,7 +1,9 @@
--- `put_place` meets its contract. Assumes nothing.
-use mathlib.Core.Path.{sym}
+-- `put_place` meets its contract: which numbers stand bare is stated before the text is rewritten by it. Assumes nothing.
+use mathlib.Core.Path.{_≡_, sym}
+use mathlib.Core.Bool.{true, false, _||_}
 use native.Mathlib.Omega.{arith}
 use denote.Ref.{now}
+use lib.Dec.{eqb}
 use Rattle.krl_listing.specs.Listing.{sideText, placeText, spacedNumber}
 use Rattle.lent_text.proofs.Laws.{stored-none, stored-then}
 use Rattle.krl_listing.proofs.Lines.{side-few}
@@ -11,7 +13,10 @@ use Rattle.krl_listing.proofs.put_place.Tie as tie
 
 returns : tie.Need-returns
 unfolding placeText
-returns c = rw (c .if1 .taken) (omega arith, sym (stored-none (c .before .before .args .write) (now (c .before .before .args .out)) (c .before .before .args .at)))
+returns c =
+    let a = c .before .before .args in
+    let bare : eqb (a .number) 6 || eqb (a .number) 10 ≡ true = c .if1 .taken in
+    rw bare (omega arith, sym (stored-none (a .write) (now (a .out)) (a .at)))
 
 put-spaced-requires : tie.Need-put-spaced-requires
 put-spaced-requires c κs = omega (arith, c .before .before .before .put-side .ensures .0, side-few (c .before .before .before .before .before .before .before .args .side))
@@ -22,7 +27,8 @@ returns-2 c =
     let a = c .before .before .before .before .before .before .before .before .before .before .args in
     let s = c .before .before .before .before .before .before .put-side in
     let n = c .before .before .put-spaced in
-    rw (c .before .before .before .before .before .before .before .before .if1 .left) (stored-then (a .write) (now (a .out)) (s .last .0) (n .last .0) (a .at) (s .result) (n .result) (sideText (a .side)) (spacedNumber (a .index)) (s .ensures .1) (s .ensures .0) (n .ensures .1) (n .ensures .0))
+    let placed : eqb (a .number) 6 || eqb (a .number) 10 ≡ false = c .before .before .before .before .before .before .before .before .if1 .left in
+    rw placed (stored-then (a .write) (now (a .out)) (s .last .0) (n .last .0) (a .at) (s .result) (n .result) (sideText (a .side)) (spacedNumber (a .index)) (s .ensures .1) (s .ensures .0) (n .ensures .1) (n .ensures .0))
 
 pub put-place-spec : {M : Type 1} → statement M
 put-place-spec =

@@ -1,12 +1,21 @@
--- `check_intervals` meets its contract: an odd number of words is 1, then the pairs are asked. Assumes nothing.
-use mathlib.Core.Path.{_∙_}
+-- `check_intervals` meets its contract: an odd number of words is 1, which is stated before the verdict is rewritten by it; then the pairs are
+-- asked. Assumes nothing.
+use Prim.Native.Nat.{_%_}
+use mathlib.Core.Path.{_≡_, _∙_}
+use mathlib.Core.Bool.{false}
+use lib.ListN.{length}
+use lib.Dec.{eqb}
+use borrow.Author.Tests.{ne-eqb}
 use Rattle.item_check.proofs.Tests.{tests}
 use borrow.Author.Needs.{needs}
 use Rattle.position_intervals.proofs.given.check_intervals.Statement.{statement}
 use Rattle.position_intervals.proofs.given.check_intervals.Tie as tie
 
 returns : tie.Need-returns
-returns c = c .refuse .ensures ∙ search tests
+returns c =
+    let words = c .before .before .before .args .intervals .now in
+    let odd : eqb (length words % 2) 0 ≡ false = ne-eqb (length words % 2) 0 (c .before .if1 .taken) in
+    c .refuse .ensures ∙ rw odd
 
 returns-2 : tie.Need-returns-2
 returns-2 c = c .check-canonical .ensures ∙ search tests
