@@ -81,8 +81,7 @@ fn then_by(first: Ordering, second: Ordering) -> Ordering
     }
 }
 
-// inner: the tests of an answer.
-
+// inner: whether an answer is Less.
 pub fn is_less(o: Ordering) -> bool
     ensures { λ r. ⌜ r ≡ isLess o ⌝ }
 {
@@ -93,6 +92,7 @@ pub fn is_less(o: Ordering) -> bool
     }
 }
 
+// inner: whether it is not Greater.
 pub fn is_at_most(o: Ordering) -> bool
     ensures { λ r. ⌜ r ≡ isAtMost o ⌝ }
 {
@@ -103,6 +103,7 @@ pub fn is_at_most(o: Ordering) -> bool
     }
 }
 
+// inner: whether it is Equal.
 pub fn is_equal(o: Ordering) -> bool
     ensures { λ r. ⌜ r ≡ isEqual o ⌝ }
 {

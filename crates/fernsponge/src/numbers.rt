@@ -2,21 +2,18 @@
 ghost use mathlib.Core.Path.{_≡_};
 ghost use mathlib.Core.List.{_∷_};
 ghost use Rattle.query_item.specs.Items.{flat};
-ghost use Rattle.query_item.specs.Boundaries.{withKey};
 ghost use Rattle.fernsponge.specs.Answers.{orderNumber, boolNumber, isKind, refusalNumber, setNumbers, setOfWords, maybeNumbers, containmentNumbers};
-use boundary::BoundaryKind;
 use item_check::Refusal;
 use item_words::ITEM_SIZE;
 use item_words::words_of;
 use key_order::Ordering;
 use query_item::ItemWords;
-use query_item::KeyAt;
 use query_item::MaybeItem;
 use query_item::RangeSet;
-use query_item::RangeSetItem;
 use query_item::pooled::key_of;
 use query_item::pooled::kind_of;
 use query_item::pooled::least;
+use query_item::pooled::with_key;
 use range_borrowed::KeyContainmentResult;
 use range_borrowed::kind_number;
 use range_borrowed::kind_numbered;
@@ -86,18 +83,6 @@ pub(crate) fn set_of_words(words: ItemWords) -> RangeSet
     let start = with_key(kind_numbered(words.code), a);
     let end = with_key(kind_numbered(words.wrapper), b);
     RangeSet { start, end }
-}
-
-fn with_key(kind: BoundaryKind, key: KeyAt) -> RangeSetItem
-    ensures { λ r. ⌜ r ≡ withKey kind key ⌝ }
-{
-    match kind {
-        BoundaryKind::UnboundedStart => RangeSetItem::UnboundedStart,
-        BoundaryKind::UnboundedEnd => RangeSetItem::UnboundedEnd,
-        BoundaryKind::Inclusive => RangeSetItem::Inclusive(key),
-        BoundaryKind::ExclusiveStart => RangeSetItem::ExclusiveStart(key),
-        BoundaryKind::ExclusiveEnd => RangeSetItem::ExclusiveEnd(key),
-    }
 }
 
 pub(crate) fn maybe_numbers(maybe: MaybeItem) -> [u32; MAYBE_SIZE]

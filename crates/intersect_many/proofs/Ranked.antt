@@ -108,9 +108,6 @@ module _ (pool : List ℕ) (n : ℕ) (fits : size pool ≤ n) where
   before-says : (a b : RangeSet) → before pool a b ≡ true → rk (a .end) < rk (b .start)
   before-says a b e = ltb-true (rk (a .end)) (rk (b .start)) (sym (less-rank pool n fits (a .end) (b .start)) ∙ e)
 
-  before-not : (a b : RangeSet) → before pool a b ≡ false → rk (b .start) ≤ rk (a .end)
-  before-not a b e = ltb-false (rk (a .end)) (rk (b .start)) (sym (less-rank pool n fits (a .end) (b .start)) ∙ e)
-
   pub meet-met : (a b : RangeSet) → before pool a b ≡ false → before pool b a ≡ false → meetSets pool a b ≡ overlap pool a b ∷ []
   unfolding meetSets
   meet-met a b f g = rw (f, g)

@@ -16,7 +16,7 @@ use Rattle.query_item.specs.declared.RangeSet.{RangeSet}
 use Rattle.query_item.specs.Items.{itemSize}
 use Rattle.query_item.specs.Boundaries.{compareIn, setAt, toQueryItem}
 use Rattle.query_item.proofs.Laws.{rankIn, at-most-rank, rank-says-in}
-use Rattle.item_check.specs.Checks.{itemsOf}
+use Rattle.item_check.specs.Checks.{mostItems, itemsOf}
 use Rattle.item_check.proofs.Laws.{AcceptedList}
 use Rattle.intervals.proofs.Laws.{AboveOf, Meeting, Cutting}
 use Rattle.intervals.proofs.Laws.{sweepOf, sweep-first, sweep-second, sweep-nil, sweep-is-shared, sweep-skip}
@@ -212,8 +212,8 @@ module _ (pool : List ℕ) where
   -- ---- all three
 
   pub record Swept (ours theirs both₀ mine₀ yours₀ both mine yours : List ℕ) (n : ManyCounts) (i j : ℕ) (x y : RangeSet) : Type 0 where
-    pub our-size : length ours / itemSize ≤ 2048
-    pub their-size : length theirs / itemSize ≤ 2048
+    pub our-size : length ours / itemSize ≤ mostItems
+    pub their-size : length theirs / itemSize ≤ mostItems
     pub our-in : i ≤ length ours / itemSize
     pub their-in : j ≤ length theirs / itemSize
     pub shared-few : n .«in_both» ≤ i + j

@@ -49,10 +49,6 @@ module _ (ws : List ℕ) (count i from to : ℕ) (report : PositionMismatch) whe
     unfolding reportUntil
     until-next h l = rw (pairs-more ws i count h, le-ltb to (finish ws i) l, is-gap)
 
-    -- the run that is added ends at a u64
-    pub run-fits : finish ws i < 18446744073709551616 → s < 18446744073709551616 → s + d ≤ 18446744073709551616
-    run-fits h l = omega arith
-
 -- ---- what a walk reports
 
 -- what is left of the intervals, from w's place on, below `to`, comes after what is reported already

@@ -1,7 +1,6 @@
 // Reports of positions that are off.
 ghost use mathlib.Core.Path.{_≡_};
 ghost use mathlib.Core.List.{[]};
-ghost use lib.Dec.{eqb};
 ghost use Rattle.position_mismatch.specs.Reports.{reportOf};
 use crate::PositionMismatch;
 
@@ -18,12 +17,5 @@ impl PositionMismatch {
             count: 0,
             examples: [0; PositionMismatch::MAX_REPORTED_POSITIONS],
         }
-    }
-
-    // Whether nothing is off (01 m6.10).
-    pub fn is_empty(self) -> bool
-        ensures { λ r. ⌜ r ≡ eqb (self .total) 0 ⌝ }
-    {
-        self.total == 0
     }
 }

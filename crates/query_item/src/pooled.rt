@@ -78,7 +78,8 @@ pub fn key_of(x: RangeSetItem) -> KeyAt
     }
 }
 
-fn with_key(kind: BoundaryKind, key: KeyAt) -> RangeSetItem
+// inner: the boundary of a kind and a key.
+pub fn with_key(kind: BoundaryKind, key: KeyAt) -> RangeSetItem
     ensures { λ r. ⌜ r ≡ withKey kind key ⌝ }
 {
     match kind {

@@ -1,3 +1,5 @@
+-- `sweep` meets its contract: in every turn the three lists have what the pass over the ranges behind both indexes gives, and what is left of the
+-- two items at them is x and y (`Swept`). The measure is how many items of both lists are still to come. Assumes nothing.
 use Prim.Native.Nat.{ℕ, _+_, _-_, _/_, _≤_, _<_}
 use mathlib.Core.Path.{_≡_, refl, sym, _∙_}
 use mathlib.Core.Bool.{Bool, true, false, _&&_, false≢true}
@@ -56,17 +58,16 @@ abbrev μ-loop : tie.MeasureT-loop
 -- in a turn both indexes are inside
 test : (c : tie.In-loop Inv-loop μ-loop)
     → (c .before .loop .i < length (c .before .before .before .before .before .before .before .before .before .before .args .ours .now) / itemSize) × (c .before .loop .j < length (c .before .before .before .before .before .before .before .before .before .before .args .theirs .now) / itemSize)
-test c = inside (c .before .loop .i) (c .before .loop .j) _ _ (c .loop-test .taken)
+test c =
+    let told = inside (c .before .loop .i) (c .before .loop .j) _ _ (c .loop-test .taken) in
+    (omega (arith, told .0), omega (arith, told .1))
 
--- src/lib.rt:223:9
 set-at-requires : tie.Need-set-at-requires Inv-loop μ-loop
 set-at-requires c κs = search needs
 
--- src/lib.rt:224:9
 set-at-requires-2 : tie.Need-set-at-requires-2 Inv-loop μ-loop
 set-at-requires-2 c κs = search needs
 
--- src/lib.rt:225:5
 loop-holds : tie.Need-loop-holds Inv-loop μ-loop
 loop-holds c =
     let start = c .before .before .before .before .before .before .before .before in
@@ -75,47 +76,36 @@ loop-holds c =
     (accepted-list (start .args .pool .now) 1 (start .args .theirs .now) .0 (start .pre .1))
     refl refl refl (c .before .set-at .ensures) (c .set-at2 .ensures)
 
--- src/lib.rt:226:13
 set-at-requires-3 : tie.Need-set-at-requires-3 Inv-loop μ-loop
 set-at-requires-3 c κs = search needs
 
--- src/lib.rt:227:13
 set-at-requires-4 : tie.Need-set-at-requires-4 Inv-loop μ-loop
 set-at-requires-4 c κs = search needs
 
--- src/lib.rt:228:15
 how-they-stand-requires : tie.Need-how-they-stand-requires Inv-loop μ-loop
 how-they-stand-requires c κs = search needs
 
--- src/lib.rt:230:38
 enum-told : tie.Need-enum-told Inv-loop μ-loop
 enum-told c = search needs
 
--- src/lib.rt:230:52
 to-query-item-requires : tie.Need-to-query-item-requires Inv-loop μ-loop
 to-query-item-requires c κs = search needs
 
--- src/lib.rt:230:34
 put-requires : tie.Need-put-requires Inv-loop μ-loop
 put-requires c κs = omega (arith, c .before .before .before .before .before .before .before .before .loop .inv, test (c .before .before .before .before .before .before .before))
 
--- src/lib.rt:230:17
 with-ours-requires : tie.Need-with-ours-requires Inv-loop μ-loop
 with-ours-requires c κs = search needs
 
--- src/lib.rt:231:17
 add-i : tie.Need-add-i Inv-loop μ-loop
 add-i c = omega (arith, test (c .before .before .before .before .before .before .before .before .before .before .before))
 
--- src/lib.rt:232:17
 set-at-requires-5 : tie.Need-set-at-requires-5 Inv-loop μ-loop
 set-at-requires-5 c κs = search needs
 
--- src/lib.rt:225:5
 loop-less : tie.Need-loop-less Inv-loop μ-loop
 loop-less c = omega (arith, test (c .before .before .before .before .before .before .before .before .before .before .before .before))
 
--- src/lib.rt:225:5
 loop-again : tie.Need-loop-again Inv-loop μ-loop
 loop-again c =
     let inside = c .before .before .before .before .before .before .before .before .before .before .before .before in
@@ -132,35 +122,27 @@ loop-again c =
     (stands-before (start .args .pool .now) (a .result) (b .result) (sym (stand .ensures) ∙ c .before .before .before .before .before .before .before .enum-told .given .1))
     (with .0) (with .2) (rw (with .1, ← item) put) (c .set-at5 .ensures)
 
--- src/lib.rt:235:40
 enum-told-2 : tie.Need-enum-told-2 Inv-loop μ-loop
 enum-told-2 c = search needs
 
--- src/lib.rt:235:57
 to-query-item-requires-2 : tie.Need-to-query-item-requires-2 Inv-loop μ-loop
 to-query-item-requires-2 c κs = search needs
 
--- src/lib.rt:235:36
 put-requires-2 : tie.Need-put-requires-2 Inv-loop μ-loop
 put-requires-2 c κs = omega (arith, c .before .before .before .before .before .before .before .before .loop .inv, test (c .before .before .before .before .before .before .before))
 
--- src/lib.rt:235:17
 with-theirs-requires : tie.Need-with-theirs-requires Inv-loop μ-loop
 with-theirs-requires c κs = search needs
 
--- src/lib.rt:236:17
 add-j : tie.Need-add-j Inv-loop μ-loop
 add-j c = omega (arith, test (c .before .before .before .before .before .before .before .before .before .before .before))
 
--- src/lib.rt:237:17
 set-at-requires-6 : tie.Need-set-at-requires-6 Inv-loop μ-loop
 set-at-requires-6 c κs = search needs
 
--- src/lib.rt:225:5
 loop-less-2 : tie.Need-loop-less-2 Inv-loop μ-loop
 loop-less-2 c = omega (arith, test (c .before .before .before .before .before .before .before .before .before .before .before .before))
 
--- src/lib.rt:225:5
 loop-again-2 : tie.Need-loop-again-2 Inv-loop μ-loop
 loop-again-2 c =
     let inside = c .before .before .before .before .before .before .before .before .before .before .before .before in
@@ -177,11 +159,9 @@ loop-again-2 c =
     (stands-after (start .args .pool .now) (a .result) (b .result) (sym (stand .ensures) ∙ c .before .before .before .before .before .before .before .enum-told2 .given .1))
     (with .0) (with .1) (rw (with .2, ← item) put) (c .set-at6 .ensures)
 
--- src/lib.rt:239:26
 enum-known-ends : tie.Need-enum-known-ends Inv-loop μ-loop
 enum-known-ends c = search needs
 
--- src/lib.rt:240:17
 emit-requires : tie.Need-emit-requires Inv-loop μ-loop
 emit-requires c κs =
     let inside = c .before .before .before .before .before .before .before .before .before in
@@ -194,27 +174,21 @@ emit-requires c κs =
     let meets = stands-meets (start .args .pool .now) (a .result) (b .result) _ (sym (stand .ensures) ∙ c .before .before .before .before .ends .given .1) in
     swept-turn _ _ _ _ _ _ _ _ _ _ _ _ _ _ (at .loop .inv) (both .0) (both .1) _ _ (a .ensures) (b .ensures) _ (meets .0) (meets .1) (meets .2)
 
--- src/lib.rt:243:25
 enum-told-3 : tie.Need-enum-told-3 Inv-loop μ-loop
 enum-told-3 c = search needs
 
--- src/lib.rt:243:25
 right-set-requires : tie.Need-right-set-requires Inv-loop μ-loop
 right-set-requires c κs = search needs
 
--- src/lib.rt:244:25
 add-i-2 : tie.Need-add-i-2 Inv-loop μ-loop
 add-i-2 c = omega (arith, test (c .before .before .before .before .before .before .before .before .before .before .before .before .before .before .before .before .before .before .before), c .before .before .before .before .before .before .before .before .before .before .before .before .before .before .before .before .before .before .before .before .loop .inv .our-size)
 
--- src/lib.rt:245:25
 set-at-requires-7 : tie.Need-set-at-requires-7 Inv-loop μ-loop
 set-at-requires-7 c κs = search needs
 
--- src/lib.rt:225:5
 loop-less-3 : tie.Need-loop-less-3 Inv-loop μ-loop
 loop-less-3 c = omega (arith, test (c .before .before .before .before .before .before .before .before .before .before .before .before .before .before .before .before .before .before .before .before))
 
--- src/lib.rt:225:5
 loop-again-3 : tie.Need-loop-again-3 Inv-loop μ-loop
 loop-again-3 c =
     let inside = c .before .before .before .before .before .before .before .before .before .before .before .before .before .before .before .before .before .before .before .before in
@@ -230,27 +204,21 @@ loop-again-3 c =
     (ranks-say (start .args .pool .now) (a .result .end) (b .result .end) (sym (meets .0) ∙ c .before .before .enum-told3 .given .1))
     (c .set-at7 .ensures) (c .before .right-set .ensures)
 
--- src/lib.rt:248:25
 enum-told-4 : tie.Need-enum-told-4 Inv-loop μ-loop
 enum-told-4 c = search needs
 
--- src/lib.rt:248:25
 right-set-requires-2 : tie.Need-right-set-requires-2 Inv-loop μ-loop
 right-set-requires-2 c κs = search needs
 
--- src/lib.rt:249:25
 add-j-2 : tie.Need-add-j-2 Inv-loop μ-loop
 add-j-2 c = omega (arith, test (c .before .before .before .before .before .before .before .before .before .before .before .before .before .before .before .before .before .before .before), c .before .before .before .before .before .before .before .before .before .before .before .before .before .before .before .before .before .before .before .before .loop .inv .their-size)
 
--- src/lib.rt:250:25
 set-at-requires-8 : tie.Need-set-at-requires-8 Inv-loop μ-loop
 set-at-requires-8 c κs = search needs
 
--- src/lib.rt:225:5
 loop-less-4 : tie.Need-loop-less-4 Inv-loop μ-loop
 loop-less-4 c = omega (arith, test (c .before .before .before .before .before .before .before .before .before .before .before .before .before .before .before .before .before .before .before .before))
 
--- src/lib.rt:225:5
 loop-again-4 : tie.Need-loop-again-4 Inv-loop μ-loop
 loop-again-4 c =
     let inside = c .before .before .before .before .before .before .before .before .before .before .before .before .before .before .before .before .before .before .before .before in
@@ -266,31 +234,24 @@ loop-again-4 c =
     (ranks-say (start .args .pool .now) (a .result .end) (b .result .end) (sym (meets .0) ∙ c .before .before .enum-told4 .given .1))
     (c .before .right-set2 .ensures) (c .set-at8 .ensures)
 
--- src/lib.rt:253:25
 enum-told-5 : tie.Need-enum-told-5 Inv-loop μ-loop
 enum-told-5 c = search needs
 
--- src/lib.rt:253:25
 add-i-3 : tie.Need-add-i-3 Inv-loop μ-loop
 add-i-3 c = omega (arith, test (c .before .before .before .before .before .before .before .before .before .before .before .before .before .before .before .before .before .before))
 
--- src/lib.rt:254:25
 add-j-3 : tie.Need-add-j-3 Inv-loop μ-loop
 add-j-3 c = omega (arith, test (c .before .before .before .before .before .before .before .before .before .before .before .before .before .before .before .before .before .before))
 
--- src/lib.rt:255:25
 set-at-requires-9 : tie.Need-set-at-requires-9 Inv-loop μ-loop
 set-at-requires-9 c κs = search needs
 
--- src/lib.rt:256:25
 set-at-requires-10 : tie.Need-set-at-requires-10 Inv-loop μ-loop
 set-at-requires-10 c κs = search needs
 
--- src/lib.rt:225:5
 loop-less-5 : tie.Need-loop-less-5 Inv-loop μ-loop
 loop-less-5 c = omega (arith, test (c .before .before .before .before .before .before .before .before .before .before .before .before .before .before .before .before .before .before .before .before))
 
--- src/lib.rt:225:5
 loop-again-5 : tie.Need-loop-again-5 Inv-loop μ-loop
 loop-again-5 c =
     let inside = c .before .before .before .before .before .before .before .before .before .before .before .before .before .before .before .before .before .before .before .before in
@@ -306,27 +267,21 @@ loop-again-5 c =
     (ranks-say (start .args .pool .now) (a .result .end) (b .result .end) (sym (meets .0) ∙ c .before .before .enum-told5 .given .1))
     (c .before .set-at9 .ensures) (c .set-at10 .ensures)
 
--- src/lib.rt:264:15
 put-rest-requires : tie.Need-put-rest-requires Inv-loop μ-loop
 put-rest-requires c κs = omega (arith, c .before .before .loop .inv)
 
--- src/lib.rt:265:17
 put-rest-requires-2 : tie.Need-put-rest-requires-2 Inv-loop μ-loop
 put-rest-requires-2 c κs = omega (arith, c .before .before .before .before .before .before .loop .inv)
 
--- src/lib.rt:201:1
 same-length : tie.Need-same-length Inv-loop μ-loop
 same-length c = c .before .before .before .before .before .before .before .before .before .loop .inv .shared .same
 
--- src/lib.rt:201:1
 same-length-2 : tie.Need-same-length-2 Inv-loop μ-loop
 same-length-2 c = search needs
 
--- src/lib.rt:201:1
 same-length-3 : tie.Need-same-length-3 Inv-loop μ-loop
 same-length-3 c = search needs
 
--- src/lib.rt:201:1
 returns : tie.Need-returns Inv-loop μ-loop
 returns c =
     let at = c .before .before .before .before .before .before .before .before .before in

@@ -1,3 +1,4 @@
+-- `numbers::set_of_words` meets its contract: both boundaries are made of a kind and a key. Assumes nothing.
 use Rattle.fernsponge.specs.Answers.{setOfWords}
 use borrow.Author.Needs.{needs}
 use Rattle.fernsponge.proofs.numbers.set_of_words.Statement.{statement}

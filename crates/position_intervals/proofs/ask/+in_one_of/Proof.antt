@@ -25,27 +25,23 @@ abbrev in-one-of-below : ℕ → In 1 in-one-of-kinds.ps
 in-one-of-below t =
     and 1 in-one-of-kinds.ps (falls 1 in-one-of-kinds.ps _<_ μ-in-one-of t) in-one-of.Pre
 
--- src/ask.rt:34:9
 in-one-of-returns :
     (t : ℕ) →
     in-one-of-lts.Need-returns (in-one-of-below t, in-one-of.Post) (in-one-of-at t) in-one-of.Post
 in-one-of-returns t c = none-held (c .before .before .args .intervals .now) (c .before .before .args .position .0) (c .if1 .taken)
 
--- src/ask.rt:38:17
 in-one-of-shared-slice-read-result : (t : ℕ) → in-one-of-lts.Need-shared-slice-read-result (
   in-one-of-below t,
   in-one-of.Post,
 ) (in-one-of-at t) in-one-of.Post
 in-one-of-shared-slice-read-result t c = search needs
 
--- src/ask.rt:38:43
 in-one-of-shared-slice-read-result-2 : (t : ℕ) → in-one-of-lts.Need-shared-slice-read-result-2 (
   in-one-of-below t,
   in-one-of.Post,
 ) (in-one-of-at t) in-one-of.Post
 in-one-of-shared-slice-read-result-2 t c = search needs
 
--- src/ask.rt:38:9
 in-one-of-returns-2 :
     (t : ℕ) →
     in-one-of-lts.Need-returns-2
@@ -54,26 +50,22 @@ in-one-of-returns-2 :
     in-one-of.Post
 in-one-of-returns-2 t c = one-held (c .before .before .before .before .before .args .intervals .now) (c .before .before .before .before .before .args .position .0) (c .before .before .if2 .taken)
 
--- src/ask.rt:40:15
 in-one-of-mul-cut :
     (t : ℕ) →
     in-one-of-lts.Need-mul-cut (in-one-of-below t, in-one-of.Post) (in-one-of-at t) in-one-of.Post
 in-one-of-mul-cut t c = search needs
 
--- src/ask.rt:41:12
 in-one-of-mul-if3 :
     (t : ℕ) →
     in-one-of-lts.Need-mul-if3 (in-one-of-below t, in-one-of.Post) (in-one-of-at t) in-one-of.Post
 in-one-of-mul-if3 t c = search needs
 
--- src/ask.rt:41:12
 in-one-of-shared-slice-read-if3 : (t : ℕ) → in-one-of-lts.Need-shared-slice-read-if3 (
   in-one-of-below t,
   in-one-of.Post,
 ) (in-one-of-at t) in-one-of.Post
 in-one-of-shared-slice-read-if3 t c = search needs
 
--- src/ask.rt:42:26
 in-one-of-slice-aggregate-in-one-of : (t : ℕ) → in-one-of-lts.Need-slice-aggregate-in-one-of (
   in-one-of-below t,
   in-one-of.Post,
@@ -86,7 +78,6 @@ in-one-of-slice-aggregate-in-one-of t c =
     let l : cut < length xs = omega arith in
     sym (length-take-le cut xs (omega arith))
 
--- src/ask.rt:42:9
 in-one-of-in-one-of-requires : (t : ℕ) → in-one-of-lts.Need-in-one-of-requires (
   in-one-of-below t,
   in-one-of.Post,
@@ -99,7 +90,6 @@ in-one-of-in-one-of-requires t c κs =
     let l : cut < length xs = omega arith in
     (subst (λ (j : ℕ). length (take cut xs) < j) (s .pre .0) (less-front xs cut (s .pre .1) even l), sound-front xs cut (s .pre .1) even l)
 
--- src/ask.rt:42:9
 in-one-of-returns-3 :
     (t : ℕ) →
     in-one-of-lts.Need-returns-3
@@ -114,35 +104,30 @@ in-one-of-returns-3 t c =
     let l : cut < length xs = omega arith in
     c .in-one-of .ensures ∙ low xs cut (s .pre .1) even l (s .args .position .0) (c .before .before .if3 .taken)
 
--- src/ask.rt:44:15
 in-one-of-mul-in-one-of : (t : ℕ) → in-one-of-lts.Need-mul-in-one-of (
   in-one-of-below t,
   in-one-of.Post,
 ) (in-one-of-at t) in-one-of.Post
 in-one-of-mul-in-one-of t c = search needs
 
--- src/ask.rt:44:15
 in-one-of-sub-in-one-of : (t : ℕ) → in-one-of-lts.Need-sub-in-one-of (
   in-one-of-below t,
   in-one-of.Post,
 ) (in-one-of-at t) in-one-of.Post
 in-one-of-sub-in-one-of t c = search needs
 
--- src/ask.rt:44:15
 in-one-of-part-in-one-of-start : (t : ℕ) → in-one-of-lts.Need-part-in-one-of-start (
   in-one-of-below t,
   in-one-of.Post,
 ) (in-one-of-at t) in-one-of.Post
 in-one-of-part-in-one-of-start t c = search needs
 
--- src/ask.rt:44:15
 in-one-of-part-in-one-of-end : (t : ℕ) → in-one-of-lts.Need-part-in-one-of-end (
   in-one-of-below t,
   in-one-of.Post,
 ) (in-one-of-at t) in-one-of.Post
 in-one-of-part-in-one-of-end t c = search needs
 
--- src/ask.rt:44:5
 in-one-of-in-one-of-requires-2 : (t : ℕ) → in-one-of-lts.Need-in-one-of-requires-2 (
   in-one-of-below t,
   in-one-of.Post,
@@ -155,7 +140,6 @@ in-one-of-in-one-of-requires-2 t c κs =
     let l : cut < length xs = omega arith in
     (subst (λ (j : ℕ). length (take (length xs - cut) (drop cut xs)) < j) (s .pre .0) (less-back xs cut (s .pre .1) even l (omega arith)), sound-back xs cut (s .pre .1) even l)
 
--- src/ask.rt:28:1
 in-one-of-returns-4 :
     (t : ℕ) →
     in-one-of-lts.Need-returns-4
