@@ -1,4 +1,4 @@
-// The tail of the list, from the first changed item on: where it starts, and how it is rewritten.
+// The tail of the list, from the first changed item on: where it starts, and how it is rewritten (01 m5.7, form.8).
 ghost use mathlib.Core.Path.{_≡_};
 ghost use Prim.Native.Nat.{_/_, _≤_};
 ghost use lib.ListN.{length};

@@ -1,4 +1,4 @@
--- DEMAND 3 of document 01, as laws of the lists that `intersect_many_ordered` writes, for any accepted lists A, B, C over one pool.
+-- DEMAND 3 (01 demand.3, tight.7), as laws of the lists that `intersect_many_ordered` writes, for any accepted lists A, B, C over one pool.
 -- What a reader must believe is in specs/Demand.antt and specs/Lists.antt; each law is proved in Demanded.antt. Assumes nothing.
 use Prim.Native.Nat.{ℕ}
 use mathlib.Core.Path.{_≡_}

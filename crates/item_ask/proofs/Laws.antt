@@ -2,7 +2,7 @@
 
 -- the table's answers about a key are those of the item's boundaries
 pub use Rattle.item_ask.proofs.Between.{containment-between}
--- where a direction is answered no, no key that the item holds stands there
+-- where a direction is answered no, no key that the item holds stands there (01 m2.5)
 pub use Rattle.item_ask.proofs.Directions.{no-left, no-right}
 -- an answer's numbers and values tell its cases apart
 pub use Rattle.item_ask.proofs.Apart.{containment-apart, direction-apart, range-apart, item-apart}

@@ -1,4 +1,5 @@
-// Module 2 of document 01: items as six words of a list, and back. ITEM_SIZE is named once: nothing else knows how wide an item is.
+// Module 2 of document 01: items as six words of a list, and back (01 keys.3). Code that reads or writes an item of a list calls these functions
+// and goes by ITEM_SIZE; docs/CHANGING.md says who else knows how wide an item is.
 // Definitions: specs/Items.antt of `query_item`, and laws in its proofs/Words.antt.
 //
 // A function marked "inner" is public only because other crates need it. It checks nothing: its definition covers every input.

@@ -35,7 +35,7 @@ fn records_room() -> [u32; 49140]
     [0; 49140]
 }
 
-// The words of 2,048 items.
+// The words of 2,048 items (01 m7.5).
 fn list_room() -> [u32; 12288]
     ensures { λ r. ⌜ 12288 ≡ length r ⌝ }
 {

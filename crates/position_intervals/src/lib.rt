@@ -16,10 +16,10 @@ use item_check::Refusal;
 // The last u64. As a position it is covered by nothing, since no count is above it: nothing adds 1 to it.
 pub const LAST_WORD: u64 = 18446744073709551615;
 
-// A row of the log. Nothing adds two of them.
+// A row of the log. Nothing adds two of them (01 m6.7, form.2).
 pub struct LogPosition(pub u64);
 
-// How many rows.
+// How many rows (01 m6.7, form.2).
 pub struct RowCount(pub u64);
 
 // What `contains` and `is_empty` answer.

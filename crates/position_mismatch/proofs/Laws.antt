@@ -34,12 +34,12 @@ compared-apart r s e m = let k = go (r .checked) (s .checked) e in λ i. record 
 
 -- ---- positions counted
 
--- covered = present + missing
+-- 01 m6.12: covered = present + missing
 pub covered-parts : (A : List Interval) (P : List ℕ) → length (positionsOf A) ≡ length (present A P) + length (missing A P)
 unfolding present missing
 covered-parts A P = keep-parts (isIn P) (positionsOf A)
 
--- proved = present + extra
+-- 01 m6.12: proved = present + extra
 pub proved-parts : (A : List Interval) (P : List ℕ) → Canonical A → Ascends 0 P → length P ≡ length (present A P) + length (extra A P)
 unfolding present extra
 proved-parts A P C a =

@@ -101,7 +101,7 @@ fn position_fault(pool: &[u8], item: ItemWords) -> u32
 
 // ---- the range of an item
 
-// The range of two boundaries: a start that is not above the end, or it is empty.
+// The range of two boundaries: a start that is not above the end, or it is empty. What a key reads as is taken apart at once (01 m6.2, form.7).
 fn item_range(pool: &[u8], set: RangeSet) -> ItemRange
     ensures { λ r. ⌜ itemRangeOf r ≡ rangeAnswer (now (pool .entry)) set ⌝ }
 {

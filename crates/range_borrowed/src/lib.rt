@@ -182,14 +182,14 @@ impl<'a> RangeSetBorrowed<'a> {
     }
 }
 
-// inner: an item's range is made, and asked.
-
+// inner: an item's range is made, and asked whether it holds a key.
 pub fn item_contains(pool: &[u8], item: ItemWords, key: &[u8]) -> KeyContainmentResult
     ensures { λ r. ⌜ r ≡ containmentBetween (boundaryOf (now (pool .entry)) (rangeOf item .start)) (boundaryOf (now (pool .entry)) (rangeOf item .end)) (now (key .entry)) ⌝ }
 {
     to_range_set_borrowed(pool, item).could_contain_key(key)
 }
 
+// inner: the same, asked whether keys of it may stand in a direction of a key.
 pub fn item_may_stand(pool: &[u8], item: ItemWords, key: &[u8], direction: Direction) -> bool
     ensures { λ r. ⌜ r ≡ mayStand (boundaryOf (now (pool .entry)) (rangeOf item .start)) (boundaryOf (now (pool .entry)) (rangeOf item .end)) (now (key .entry)) direction ⌝ }
 {

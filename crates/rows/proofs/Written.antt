@@ -70,21 +70,21 @@ module _ (pool ws : List ℕ) (count : ℕ) (B : Bytes pool) (few : count ≤ la
 -- ---- the rows
 
 module _ (old new : List ℕ) (r : Answer ℕ) where
-  -- P9: count 100: 2..8
+  -- 01 P9: count 100: 2..8
   pub p9-hundred : FromQueryItems logKeys (flatAll logItems) 100 old new r → 6 ≤ length old → (r ≡ answered 1) × (pairs new 1 ≡ (2, 8) ∷ [])
   unfolding allSmall itemAt itemsFrom flatAll firstFault be piece ranges joinedFrom
   p9-hundred F room =
       written logKeys (flatAll logItems) 100 (bytes-of logKeys refl) (omega arith) refl ((2, 5) ∷ (5, 6) ∷ (5, 8) ∷ []) ((2, 8) ∷ []) refl
       (omega arith, (omega arith, (omega arith, tt))) refl old new r F room
 
-  -- P9: count 6: 2..6
+  -- 01 P9: count 6: 2..6
   pub p9-six : FromQueryItems logKeys (flatAll logItems) 6 old new r → 6 ≤ length old → (r ≡ answered 1) × (pairs new 1 ≡ (2, 6) ∷ [])
   unfolding allSmall itemAt itemsFrom flatAll firstFault be piece ranges joinedFrom
   p9-six F room =
       written logKeys (flatAll logItems) 6 (bytes-of logKeys refl) (omega arith) refl ((2, 5) ∷ (5, 6) ∷ (5, 6) ∷ []) ((2, 6) ∷ []) refl
       (omega arith, (omega arith, (omega arith, tt))) refl old new r F room
 
-  -- P10: 0..MAX
+  -- 01 P10: 0..MAX
   pub p10 : FromQueryItems [] (flatAll (full ∷ [])) lastWord old new r → 2 ≤ length old → (r ≡ answered 1) × (pairs new 1 ≡ (0, lastWord) ∷ [])
   unfolding allSmall itemAt itemsFrom flatAll firstFault be piece ranges joinedFrom
   p10 F room =

@@ -155,32 +155,32 @@ Row = Result × Result
 
 abbrev pub rows : List Row
 rows =
-    -- P1: key 05: ExclusiveEnd < Inclusive < ExclusiveStart
+    -- 01 P1: key 05: ExclusiveEnd < Inclusive < ExclusiveStart
     (orders (compareBoundaries (boundary ExclusiveEnd (5 ∷ [])) (boundary Inclusive (5 ∷ [])) ∷ compareBoundaries (boundary Inclusive (5 ∷ [])) (boundary ExclusiveStart (5 ∷ [])) ∷ []), orders (Less ∷ Less ∷ []))
-    -- P2: [01,05), Key 03: as the listing
+    -- 01 P2: [01,05), Key 03: as the listing
     ∷ (listsOf (two 1 0 4 ∷ []) (one 0 2 ∷ []), lists (key 3 ∷ []) (between 1 1 3 ∷ between 8 3 5 ∷ []) [])
-    -- P3: [01,05), [05,09]: nothing shared; ours left, theirs right
+    -- 01 P3: [01,05), [05,09]: nothing shared; ours left, theirs right
     ∷ (pairOf (two 1 0 4) (two 2 4 8), parts [] (between 1 1 5 ∷ []) [] [] (between 2 5 9 ∷ []))
-    -- P4: (05,09], [01,05]: nothing shared; ours right, theirs left
+    -- 01 P4: (05,09], [01,05]: nothing shared; ours right, theirs left
     ∷ (pairOf (two 9 4 8) (two 2 0 4), parts [] [] (between 9 5 9 ∷ []) (between 2 1 5 ∷ []) [])
-    -- P5: [05,05], full: Key 05; theirs RangeTo 05, RangeAfter 05
+    -- 01 P5: [05,05], full: Key 05; theirs RangeTo 05, RangeAfter 05
     ∷ (pairOf (two 2 4 4) full, parts (key 5 ∷ []) [] [] (upTo 5 5 ∷ []) (startsAt 7 5 ∷ []))
-    -- P6: full, RangeFrom -: RangeFrom -; ours left RangeTo -
+    -- 01 P6: full, RangeFrom -: RangeFrom -; ours left RangeTo -
     ∷ (pairOf full fromEmpty, parts ((4, 0, [], []) ∷ []) ((5, 0, [], []) ∷ []) [] [] [])
-    -- P7: {[01,03],[07,09]}, {[02,08]}: shared [02,03],[07,08]; ours [01,02),(08,09]; theirs (03,07)
+    -- 01 P7: {[01,03],[07,09]}, {[02,08]}: shared [02,03],[07,08]; ours [01,02),(08,09]; theirs (03,07)
     ∷ (listsOf (two 2 0 2 ∷ two 2 6 8 ∷ []) (two 2 1 7 ∷ []), lists (between 2 2 3 ∷ between 2 7 8 ∷ []) (between 1 1 2 ∷ between 9 8 9 ∷ []) (between 8 3 7 ∷ []))
-    -- P8: {}, {Key 04}: theirs Key 04
+    -- 01 P8: {}, {Key 04}: theirs Key 04
     ∷ (listsOf [] (one 0 3 ∷ []), lists [] [] (key 4 ∷ []))
-    -- P9: positions [2,5), 5, [5,7]: count 100: 2..8; count 6: 2..6
+    -- 01 P9: positions [2,5), 5, [5,7]: count 100: 2..8; count 6: 2..6
     ∷ (coveredOf firstTen logKeys logItems 100, positions (2 ∷ 3 ∷ 4 ∷ 5 ∷ 6 ∷ 7 ∷ []))
     ∷ (coveredOf firstTen logKeys logItems 6, positions (2 ∷ 3 ∷ 4 ∷ 5 ∷ []))
-    -- P10: full, count u64::MAX: 0..MAX; MAX not contained
+    -- 01 P10: full, count u64::MAX: 0..MAX; MAX not contained
     ∷ (coveredOf ends [] (full ∷ []) lastWord, positions (0 ∷ 1 ∷ 18446744073709551614 ∷ []))
     ∷ (containsResult (containsAnswer (0 ∷ lastWord ∷ []) lastWord), yesOrNo false)
-    -- P11: 0..20, proved 3: 19 missing; 0,1,2,4 to 16
+    -- 01 P11: 0..20, proved 3: 19 missing; 0,1,2,4 to 16
     ∷ (missingResult (missingAnswer (0 ∷ 20 ∷ []) (3 ∷ [])), report (record { total = 19; count = 16; examples = 0 ∷ 1 ∷ 2 ∷ 4 ∷ 5 ∷ 6 ∷ 7 ∷ 8 ∷ 9 ∷ 10 ∷ 11 ∷ 12 ∷ 13 ∷ 14 ∷ 15 ∷ 16 ∷ [] }))
-    -- P12: {[01,03],05,09}, insert [02,06): {[01,06),09}
+    -- 01 P12: {[01,03],05,09}, insert [02,06): {[01,06),09}
     ∷ (insertOf (two 2 0 2 ∷ one 0 4 ∷ one 0 8 ∷ []) (two 1 1 5), list (between 1 1 6 ∷ key 9 ∷ []))
-    -- P13: {[01,05)}, insert [05,09]: both stay
+    -- 01 P13: {[01,05)}, insert [05,09]: both stay
     ∷ (insertOf (two 1 0 4 ∷ []) (two 2 4 8), list (between 1 1 5 ∷ between 2 5 9 ∷ []))
     ∷ []
