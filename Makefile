@@ -7,7 +7,7 @@ COUNT ?= 10000
 # cargo by itself: it takes no part in make's own share of the cores.
 CARGO := env -u MAKEFLAGS -u MFLAGS cargo
 
-.PHONY: run test library-short program-short lib compare compare-short bench record attack attack-short link-short link-c link-rust
+.PHONY: run test prove beside lib compare compare-short bench record attack attack-short link-short link-c link-rust
 
 # The program krl on a file. What is proved and unchanged is not proved again.
 run: target/krl.log
@@ -18,23 +18,25 @@ target/krl.log: crates.txt $(shell find crates -name '*.rt' -o -name '*.antt')
 	@echo "make: proving and building krl; from nothing that takes some minutes" >&2
 	@rt check krl >$@ 2>&1 || { cat $@; rm -f $@; exit 1; }
 
-# The gate. What the library is made of is proved first, two crates at a time; then the library is made, compared and linked while the program
-# is proved and attacked. `rt ci` starts from nothing and has the last word.
+# The gate. `rt ci` proves every crate from nothing and then tries the edits that must fail. Beside that, what it has proved is made a library,
+# compared with the Rust, linked, and attacked. Both have to pass; `rt ci` takes longer, and its count is the last line.
 test:
 	rt fmt --check
-	rt check $(shell sed -n 's/:.*//p' crates.txt | grep -Ev '^(#|vectors|krl|rows|fernsponge)')
-	@$(MAKE) --no-print-directory --jobs=2 --output-sync=recurse library-short program-short
-	rt ci
+	tools/trace --short
+	tools/pages
+	@rm -rf target
+	@$(MAKE) --no-print-directory --jobs=2 beside prove
 
-library-short:
-	@$(MAKE) --no-print-directory compare-short
-	@$(MAKE) --no-print-directory link-short
+prove:
+	rt ci || { mkdir -p target; touch target/refused; exit 1; }
 
-# Begins once the library's own proof is under way, or after a minute: two `rt` that look at the same proved crates at once could take one
-# another's notes for their own.
-program-short:
-	@for second in $$(seq 60); do [ -d target/staticlib ] && break; sleep 1; done
-	@$(MAKE) --no-print-directory attack-short
+# Begins with the first edit that is tried: every crate has then been proved or refused, so that none is proved again but the library itself.
+beside:
+	@until [ -d target/must-fail ] || [ -f target/refused ]; do sleep 1; done
+	@[ ! -x target/bin/krl ] || touch target/krl.log
+	@{ $(MAKE) --no-print-directory compare-short && $(MAKE) --no-print-directory link-short && $(MAKE) --no-print-directory attack-short; } \
+	    >target/beside.log 2>&1 || { cat target/beside.log; echo "make: what is tried beside the proofs failed"; exit 1; }
+	@grep -E 'calls in all|^attack:|left out' target/beside.log
 
 # The program on files that are damaged in many ways.
 attack: target/krl.log

@@ -79,7 +79,7 @@ const REFERRED: &str = "
 pub fn text(measured: &Measured) -> String {
     let mut text = HEAD.to_string();
     let kind = std::env::consts::ARCH;
-    text += &format!("Processor: {kind}.\n\n## Targets\n\n");
+    text += &format!("Processor: {kind}.\n\n## Targets\n\nWhy some are missed stands in docs/DECISIONS.md, Speed.\n\n");
     text += "| target | measured | |\n|---|---|---|\n";
     for target in targets(measured) {
         text += &target.row();
