@@ -22,7 +22,7 @@ target/krl.log: crates.txt $(shell find crates -name '*.rt' -o -name '*.antt')
 # compared with the Rust, linked, and attacked. Both have to pass; `rt ci` takes longer, and its count is the last line.
 test:
 	rt fmt --check
-	tools/trace --short
+	tools/trace
 	tools/pages
 	@rm -rf target
 	@$(MAKE) --no-print-directory --jobs=2 beside prove

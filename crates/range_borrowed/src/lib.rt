@@ -147,7 +147,7 @@ fn end_kind(item: ItemWords) -> u32
 
 // ---- the borrowed range
 
-// The range of an item: its two keys are parts of the pool, and nothing is copied (01 m2.7, form.10).
+// inner: the range of an item: its two keys are parts of the pool, and nothing is copied (01 m2.7, form.10).
 pub fn to_range_set_borrowed<'a>(pool: &'a [u8], item: ItemWords) -> RangeSetBorrowed<'a>
     ensures { λ r. ⌜ (now (r .start) ≡ bytesOf (now (pool .entry)) (keyOf (rangeOf item .start))) × (now (r .end) ≡ bytesOf (now (pool .entry)) (keyOf (rangeOf item .end))) × (r .«start_kind» ≡ kindNumber (kindOf (rangeOf item .start))) × (r .«end_kind» ≡ kindNumber (kindOf (rangeOf item .end))) ⌝ }
 {
