@@ -6,7 +6,8 @@ use lib.ListN.{length}
 use Rattle.item_check.specs.declared.Refusal.{Refusal}
 use Rattle.item_check.specs.Checks.{Answer, answered, refused, accepted, refusedAs}
 use Rattle.intersect_many.specs.declared.ManyCounts.{ManyCounts}
-use Rattle.intersect_many.specs.Lists.{sharedItems, onlyItems, manyAnswer, written}
+use Rattle.item_lists.specs.Written.{plain, written}
+use Rattle.intersect_many.specs.Lists.{sharedItems, onlyItems, manyAnswer}
 use Rattle.fernsponge.specs.Answers.{refusalNumber}
 use Rattle.position_query.specs.declared.Built.{Built}
 use Rattle.position_query.specs.declared.Built.the-variants.{Pairs, Refused}
@@ -15,9 +16,9 @@ use Rattle.fernsponge.specs.Intersect.{countNumbers, GivesMany}
 use Rattle.fernsponge.specs.Positions.{GivesPairs}
 
 module _ {pool ours theirs both mine yours counts both′ mine′ yours′ : List ℕ}
-    (p : both′ ≡ written (manyAnswer pool ours theirs both mine yours) (sharedItems pool ours theirs) both)
-    (q : mine′ ≡ written (manyAnswer pool ours theirs both mine yours) (onlyItems pool ours theirs) mine)
-    (s : yours′ ≡ written (manyAnswer pool ours theirs both mine yours) (onlyItems pool theirs ours) yours) where
+    (p : both′ ≡ written (manyAnswer pool ours theirs both mine yours) (plain (sharedItems pool ours theirs)) both)
+    (q : mine′ ≡ written (manyAnswer pool ours theirs both mine yours) (plain (onlyItems pool ours theirs)) mine)
+    (s : yours′ ≡ written (manyAnswer pool ours theirs both mine yours) (plain (onlyItems pool theirs ours)) yours) where
   pub many-counted : {c : ManyCounts} → manyAnswer pool ours theirs both mine yours ≡ answered c
       → GivesMany pool ours theirs both mine yours counts 0 both′ mine′ yours′ (countNumbers c)
   many-counted e = record { number = rw e; shared = p; ours-only = q; theirs-only = s; counted = rw e }

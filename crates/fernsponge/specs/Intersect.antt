@@ -5,7 +5,8 @@ use mathlib.Core.List.{List, [], _∷_}
 use Rattle.intersect.specs.declared.QueryItemIntersectionResult.{QueryItemIntersectionResult}
 use Rattle.intersect_many.specs.declared.ManyCounts.{ManyCounts}
 use Rattle.item_check.specs.Checks.{Answer}
-use Rattle.intersect_many.specs.Lists.{sharedItems, onlyItems, manyAnswer, written}
+use Rattle.item_lists.specs.Written.{plain, written}
+use Rattle.intersect_many.specs.Lists.{sharedItems, onlyItems, manyAnswer}
 use Rattle.fernsponge.specs.Answers.{maybeNumbers, returned, left}
 
 -- 01 m3.6: the pair: it returns r, and the five places, which held in-both and the others, are left with the parts, each an item that may be missing
@@ -25,7 +26,7 @@ countNumbers c = c .«in_both» ∷ c .ours ∷ c .theirs ∷ []
 -- 01 m4.5: the call returns r, and what was lent to it, both, mine, yours and counts, is left as it has to be
 pub record GivesMany (pool ours theirs both mine yours counts : List ℕ) (r : ℕ) (both′ mine′ yours′ counts′ : List ℕ) : Type 0 where
   pub number : r ≡ returned (manyAnswer pool ours theirs both mine yours)
-  pub shared : both′ ≡ written (manyAnswer pool ours theirs both mine yours) (sharedItems pool ours theirs) both
-  pub ours-only : mine′ ≡ written (manyAnswer pool ours theirs both mine yours) (onlyItems pool ours theirs) mine
-  pub theirs-only : yours′ ≡ written (manyAnswer pool ours theirs both mine yours) (onlyItems pool theirs ours) yours
+  pub shared : both′ ≡ written (manyAnswer pool ours theirs both mine yours) (plain (sharedItems pool ours theirs)) both
+  pub ours-only : mine′ ≡ written (manyAnswer pool ours theirs both mine yours) (plain (onlyItems pool ours theirs)) mine
+  pub theirs-only : yours′ ≡ written (manyAnswer pool ours theirs both mine yours) (plain (onlyItems pool theirs ours)) yours
   pub counted : counts′ ≡ left countNumbers (manyAnswer pool ours theirs both mine yours) counts

@@ -21,7 +21,7 @@ use Rattle.insert_merge.specs.Merge.{fateOf, staying, mergedWith}
 use Rattle.insert.specs.Insertion.{placed, inserted}
 use Rattle.insert.specs.Answers.{insertedOf, laid}
 use Rattle.insert.specs.Passes.{firstChanged}
-use Rattle.insert.proofs.Written.{items-flat}
+use Rattle.item_lists.proofs.Read.{items-read}
 use Rattle.insert.proofs.Accepted.{list-inserted}
 use Rattle.insert.proofs.Holding.{holds-inserted}
 use Rattle.insert.proofs.Ordered.{order-inserted}
@@ -50,7 +50,7 @@ insert-accepted pool new its e f = list-inserted pool new its e f
 -- the words at exit, read again, are the list
 pub laid-items : (ws : List ℕ) (count : ℕ) (its : List ItemWords) → itemsFrom (laid ws count its) 0 (length its) ≡ its
 unfolding laid
-laid-items ws count its = items-flat its (replicate (itemSize * (count - length its)) 0 ++ drop (itemSize * max count (length its)) ws)
+laid-items ws count its = items-read its [] (replicate (itemSize * (count - length its)) 0 ++ drop (itemSize * max count (length its)) ws) 0 refl
 
 -- the result holds exactly the keys that the list or the new item holds, whatever their length
 pub holds-insert : (pool : List ℕ) (new : ItemWords) (its : List ItemWords) (k : List ℕ)

@@ -9,6 +9,7 @@ use lib.Seq.{length-take-le, drop-cons, sets-eq, length-sets, take-at, drop-at, 
 use borrow.Author.Tests.{lt-ltb}
 use Rattle.query_item.specs.declared.ItemWords.{ItemWords}
 use Rattle.query_item.specs.Items.{itemSize, itemAt, itemsFrom, flat, flatAll, withItem}
+use Rattle.item_lists.proofs.Written.{length-flat}
 use Rattle.insert.specs.Passes.{zeroItem, cleared}
 
 -- ---- an item is written
@@ -75,11 +76,6 @@ pub flat-append : (xs ys : List ItemWords) → flatAll (xs ++ ys) ≡ flatAll xs
 unfolding flatAll
 flat-append [] ys = refl
 flat-append (x ∷ xs) ys = rw (flat-append xs ys)
-
-pub length-flat : (xs : List ItemWords) → length (flatAll xs) ≡ itemSize * length xs
-unfolding flatAll
-length-flat [] = refl
-length-flat (x ∷ xs) = rw length-append (omega (arith, length-flat xs))
 
 -- the six words at an index are those of the item there
 flat-item : (ws : List ℕ) (i : ℕ) → i < length ws / itemSize → flat (itemAt ws i) ++ drop (itemSize * suc i) ws ≡ drop (itemSize * i) ws
@@ -150,11 +146,3 @@ clear-end ws i to h =
     let e : to - i ≡ 0 = omega arith in
     let f : max to i ≡ i = omega arith in
     rw (e, f) (take-append-drop (itemSize * i) ws)
-
--- ---- the items are read again from their words
-
-pub items-flat : (its : List ItemWords) (rest : List ℕ) → itemsFrom (flatAll its ++ rest) 0 (length its) ≡ its
-unfolding itemsFrom itemAt flatAll
-items-flat [] rest = refl
-items-flat (it ∷ its) rest =
-    ap (λ (l : List ItemWords). it ∷ l) (sym (items-drop (flat it ++ flatAll its ++ rest) 1 0 (length its)) ∙ items-flat its rest)

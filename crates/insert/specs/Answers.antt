@@ -1,5 +1,5 @@
 -- What `insert_item` answers and writes: the checks, the room, the words. Definitions only. Assumes nothing.
-use Prim.Native.Nat.{ℕ, _-_, _*_, _/_, max}
+use Prim.Native.Nat.{ℕ, _-_, _*_, max}
 use mathlib.Core.List.{List, _++_}
 use mathlib.Core.Bool.{cond, _||_}
 use lib.ListN.{length, drop, replicate}
@@ -7,6 +7,7 @@ use lib.Dec.{ltb}
 use Rattle.query_item.specs.declared.ItemWords.{ItemWords}
 use Rattle.query_item.specs.Items.{itemSize, itemsFrom, flatAll}
 use Rattle.item_check.specs.Checks.{Answer, answered, refused, andThen, refusedAs, mostItems}
+use Rattle.item_lists.specs.Written.{passes}
 use Rattle.insert_order.specs.Refusals.{inputVerdict}
 use Rattle.insert.specs.declared.Inserted.{Inserted}
 use Rattle.insert.specs.declared.Inserted.the-variants as inserted
@@ -21,7 +22,7 @@ insertedOf (inserted.Refused r) = refusedAs r
 
 -- 01 m5.9: 6 exactly if the final count exceeds the buffer or 2,048
 abbrev pub roomAnswer : List ℕ → ℕ → Answer ℕ
-roomAnswer ws n = cond (ltb (length ws / itemSize) n || ltb mostItems n) (refused 6 0 0) (answered n)
+roomAnswer ws n = cond (passes n ws || ltb mostItems n) (refused 6 0 0) (answered n)
 
 -- ---- the words
 

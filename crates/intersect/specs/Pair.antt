@@ -4,11 +4,10 @@ use mathlib.Core.List.{List, [], _∷_}
 use mathlib.Core.Bool.{Bool, false, true, cond, _||_}
 use Rattle.key_order.specs.Order.{smaller, isLess}
 use Rattle.query_item.specs.declared.ItemWords.{ItemWords}
-use Rattle.query_item.specs.declared.QueryItem.{QueryItem}
 use Rattle.query_item.specs.declared.RangeSetItem.{RangeSetItem}
 use Rattle.query_item.specs.declared.RangeSet.{RangeSet}
 use Rattle.query_item.specs.declared.MaybeItem.{MaybeItem}
-use Rattle.query_item.specs.declared.MaybeItem.the-variants.{NoItem, Item}
+use Rattle.query_item.specs.declared.MaybeItem.the-variants.{NoItem}
 use Rattle.query_item.specs.Boundaries.{compareIn, invertOf, fromTo, rangeOf, toQueryItem}
 use Rattle.item_check.specs.Checks.{Answer, answered, Verdict, andThen, refusedAs, faultAt, uprightFault, poolVerdict}
 use Rattle.intersect.specs.declared.MaybeSet.{MaybeSet}
@@ -58,15 +57,10 @@ rightOver pool a b = cond (before pool a b) [] (cond (before pool b a) (a ∷ []
 
 -- ---- converted
 
--- 01 change.2: what may be missing, as a list of at most one
-
+-- 01 change.2: a range that may be missing, as a list of at most one
 abbrev pub asSets : MaybeSet → List RangeSet
 asSets NoSet = []
 asSets (Set s) = s ∷ []
-
-abbrev pub asItems : MaybeItem → List QueryItem
-asItems NoItem = []
-asItems (Item q) = q ∷ []
 
 -- 01 m3.6: the first of a list, converted
 abbrev pub converted : List ℕ → List RangeSet → MaybeItem

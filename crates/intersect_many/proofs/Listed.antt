@@ -2,7 +2,7 @@
 use Prim.Native.Nat.{ℕ, suc, _+_, _*_, _/_, _%_, _≤_}
 use mathlib.Core.Path.{_≡_, refl, ap, ap₂, _∙_}
 use mathlib.Core.Bool.{false, cond}
-use mathlib.Core.List.{List, [], _∷_, _++_, append-assoc, map, map-append}
+use mathlib.Core.List.{List, [], _∷_, _++_, append-nil, map, map-append}
 use native.Mathlib.Nat.{add-zero}
 use native.Mathlib.Omega.{arith}
 use lib.ListN.{length, length-append}
@@ -39,9 +39,11 @@ use Rattle.item_check.specs.Checks.{mostItems, malformed, outside, uprightFault
 use Rattle.item_check.proofs.Laws.{AllSound, Following, InOrder, AcceptedList}
 use Rattle.intervals.specs.Intervals.{Interval, Above, Strict}
 use Rattle.intervals.proofs.Laws.{All, all-append}
-use Rattle.intersect.specs.Pair.{asItems}
+use Rattle.item_lists.specs.Written.{asItems, plain}
+use Rattle.item_lists.proofs.Read.{items-read}
 use Rattle.intersect_many.specs.Lists.{setsOf, convertAll, wordsAll}
 use Rattle.intersect_many.proofs.Carried.{iv, Fine}
+use Rattle.intersect_many.proofs.Written.{length-plain}
 use Rattle.intersect_many.proofs.Room.{length-words}
 
 -- ---- words read back
@@ -58,25 +60,11 @@ query-words w (RangeAfter a) = refl
 query-words w (RangeAfterTo a b) = refl
 query-words w (RangeAfterToInclusive a b) = refl
 
-item-read : (pre rest : List ℕ) (it : ItemWords) (i : ℕ) → length pre ≡ itemSize * i → itemAt (pre ++ (flat it ++ rest)) i ≡ it
-unfolding itemAt
-item-read pre rest it i e =
-    let at = getD-append-add pre (flat it ++ rest) in
-    let first = rw add-zero at (at 0 0) in
-    rw (← e, first, at 1 0, at 2 0, at 3 0, at 4 0, at 5 0)
-
-pub items-read : (Q : List QueryItem) (pre : List ℕ) (i : ℕ) → length pre ≡ itemSize * i → itemsFrom (pre ++ wordsAll Q) i (length Q) ≡ map (wordsOf 0) Q
-unfolding itemsFrom wordsAll
-items-read [] pre i e = refl
-items-read (q ∷ Q) pre i e =
-    ap₂ _∷_ (item-read pre (wordsAll Q) (wordsOf 0 q) i e)
-    (rw (← append-assoc pre (flat (wordsOf 0 q)) (wordsAll Q)) (items-read Q (pre ++ flat (wordsOf 0 q)) (suc i) (rw length-append (omega arith))))
-
 words-count : (Q : List QueryItem) → (length (wordsAll Q) / itemSize ≡ length Q) × (length (wordsAll Q) % itemSize ≡ 0)
 words-count Q = rw (length-words Q) (omega arith)
 
 pub items-of-words : (Q : List QueryItem) → itemsOf (wordsAll Q) ≡ map (wordsOf 0) Q
-items-of-words Q = rw (words-count Q .0) (items-read Q [] 0 refl)
+items-of-words Q = rw (words-count Q .0) (simp (append-nil, length-plain) at (items-read (plain Q) [] [] 0 refl))
 
 pub sets-of-words : (Q : List QueryItem) → setsOf (wordsAll Q) ≡ map toRangeSet Q
 sets-of-words Q = rw (items-of-words Q) (go Q)

@@ -12,7 +12,8 @@ use Rattle.query_item.specs.declared.MaybeItem.the-variants.{NoItem, Item}
 use Rattle.query_item.specs.Boundaries.{compareIn, invertOf, fromTo, toQueryItem}
 use Rattle.intersect.specs.declared.MaybeSet.{MaybeSet}
 use Rattle.intersect.specs.declared.MaybeSet.the-variants.{NoSet, Set}
-use Rattle.intersect.specs.Pair.{before, disjoint, overlap, meetSets, leftPart, leftOver, asSets, asItems, converted}
+use Rattle.item_lists.specs.Written.{asItems}
+use Rattle.intersect.specs.Pair.{before, disjoint, overlap, meetSets, leftPart, leftOver, asSets, converted}
 use Rattle.intersect_many.specs.Lists.{convertAll}
 use Rattle.intersect_many.specs.Sweep.{Put}
 use Rattle.intersect_many.proofs.Written.{put-none}

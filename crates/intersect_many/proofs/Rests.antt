@@ -12,7 +12,7 @@ use Rattle.query_item.specs.declared.MaybeItem.the-variants.{NoItem, Item}
 use Rattle.query_item.specs.Items.{itemSize, itemsFrom}
 use Rattle.query_item.specs.Boundaries.{rangeOf, setAt, toQueryItem}
 use Rattle.item_check.proofs.Laws.{items-end, items-more}
-use Rattle.intersect.specs.Pair.{asItems}
+use Rattle.item_lists.specs.Written.{asItems}
 use Rattle.intersect_many.specs.Lists.{setsOf, convertAll}
 use Rattle.intersect_many.specs.Sweep.{setsLeft, withHead, restLeft}
 

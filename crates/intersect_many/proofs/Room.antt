@@ -1,51 +1,32 @@
 -- The room of the three lists: what is refused for want of it, and what items written in enough of it leave. Assumes nothing.
-use Prim.Native.Nat.{ℕ, suc, _+_, _*_, _/_, _≤_}
+use Prim.Native.Nat.{ℕ, _+_, _*_, _/_, _≤_}
 use mathlib.Core.Path.{_≡_, refl, sym, ap, _∙_}
-use mathlib.Core.Bool.{true, false, _||_}
-use mathlib.Core.List.{List, [], _∷_, _++_}
-use native.Mathlib.Nat.{add-zero, zero-add}
+use mathlib.Core.Bool.{Bool, true, false, not, _||_}
+use mathlib.Core.List.{List}
 use native.Mathlib.Omega.{arith}
-use lib.ListN.{length, set}
-use lib.Seq.{sets, sets-eq, length-sets}
-use borrow.Author.Tests.{ltb-false, lt-ltb, le-ltb}
+use lib.ListN.{length}
+use borrow.Author.Tests.{ltb-false, le-ltb}
 use Rattle.query_item.specs.declared.QueryItem.{QueryItem}
-use Rattle.query_item.specs.Items.{itemSize, wordsOf, flat, withItem}
+use Rattle.query_item.specs.Items.{itemSize}
 use Rattle.item_check.specs.Checks.{answered, refused, accepted, andThen, poolVerdict, listVerdict}
 use Rattle.item_check.proofs.Laws.{or-false, accepts}
+use Rattle.item_lists.specs.Written.{plain, passes, laidOver, written}
+use Rattle.item_lists.proofs.Written.{length-flat}
+use Rattle.item_lists.proofs.Written as laws
 use Rattle.intersect_many.specs.declared.ManyCounts.{ManyCounts}
-use Rattle.intersect_many.specs.Lists.{sharedItems, onlyItems, wordsAll, laidOver, bothVerdict, listsVerdict, passes, lacksRoom, countsOf, roomVerdict, roomAnswer, written}
-use Rattle.intersect_many.specs.Sweep.{putAll, Put}
+use Rattle.intersect_many.specs.Lists.{sharedItems, onlyItems, wordsAll, bothVerdict, listsVerdict, lacksRoom, countsOf, roomVerdict, roomAnswer}
+use Rattle.intersect_many.specs.Sweep.{Put}
+use Rattle.intersect_many.proofs.Written.{length-plain, as-written}
 
 -- ---- items in enough room
 
-sets-append : (us vs l : List ℕ) (i : ℕ) → sets l i (us ++ vs) ≡ sets (sets l i us) (i + length us) vs
-sets-append [] vs l i = rw add-zero
-sets-append (u ∷ us) vs l i =
-    let e : suc i + length us ≡ i + suc (length us) = omega arith in
-    sets-append us vs (set l i u) (suc i) ∙ rw e
-
-put-is-sets : (out : List ℕ) (n : ℕ) (Q : List QueryItem) → n + length Q ≤ length out / itemSize → putAll out n Q ≡ sets out (itemSize * n) (wordsAll Q)
-unfolding putAll wordsAll withItem
-put-is-sets out n [] h = refl
-put-is-sets out n (q ∷ Q) h =
-    let e : itemSize * n + 6 ≡ itemSize * suc n = omega arith in
-    rw (lt-ltb n (length out / itemSize) (omega arith))
-    (put-is-sets (sets out (itemSize * n) (flat (wordsOf 0 q))) (suc n) Q (rw (length-sets out (itemSize * n) (flat (wordsOf 0 q))) (omega arith))
-    ∙ rw (← e) (sym (sets-append (flat (wordsOf 0 q)) (wordsAll Q) out (itemSize * n))))
-
 pub length-words : (Q : List QueryItem) → length (wordsAll Q) ≡ itemSize * length Q
-unfolding wordsAll
-length-words [] = refl
-length-words (q ∷ Q) = rw (length-words Q) (omega arith)
+length-words Q = length-flat (plain Q) ∙ rw (length-plain Q)
 
-pub put-laid : {out out′ : List ℕ} {n : ℕ} (Q : List QueryItem) → Put out 0 Q out′ n → length Q ≤ length out / itemSize → out′ ≡ laidOver out Q
-put-laid {out} Q p h =
-    p .words
-    ∙ put-is-sets out 0 Q (omega arith)
-    ∙ sets-eq (wordsAll Q) out 0 (rw (length-words Q) (omega arith))
-    ∙ rw zero-add
+put-laid : {out out′ : List ℕ} {n : ℕ} (Q : List QueryItem) → Put out 0 Q out′ n → length Q ≤ length out / itemSize → out′ ≡ laidOver out (plain Q)
+put-laid Q p h = laws.put-laid (plain Q) (as-written Q p) (rw (length-plain Q) h)
 
-pub put-count : {out out′ : List ℕ} {n : ℕ} (Q : List QueryItem) → Put out 0 Q out′ n → n ≡ length Q
+put-count : {out out′ : List ℕ} {n : ℕ} (Q : List QueryItem) → Put out 0 Q out′ n → n ≡ length Q
 put-count Q p = omega (arith, p .count)
 
 -- ---- the room
@@ -63,6 +44,21 @@ module _ (n : ManyCounts) (both mine yours : List ℕ) (e : lacksRoom n both min
     ltb-false (length mine / itemSize) (n .ours) (three .1),
     ltb-false (length yours / itemSize) (n .theirs) (three .2),
   )
+
+-- what a test has told of the room: t is its answer
+module _ {t : Bool} (n : ManyCounts) (both mine yours : List ℕ) (is : t ≡ lacksRoom n both mine yours) where
+  pub room-lacks : t ≡ true → lacksRoom n both mine yours ≡ true
+  room-lacks e = sym is ∙ e
+
+  pub room-there : t ≡ false → lacksRoom n both mine yours ≡ false
+  room-there e = sym is ∙ e
+
+  pub room-there-not : not t ≡ true → lacksRoom n both mine yours ≡ false
+  room-there-not e = room-there (no t e)
+    where
+      no : (t : Bool) → not t ≡ true → t ≡ false
+      no true e = sym e
+      no false e = refl
 
 -- fewer items need no more room
 pub room-for-fewer : (n m : ManyCounts) (both mine yours : List ℕ) → n .«in_both» ≤ m .«in_both» → n .ours ≤ m .ours → n .theirs ≤ m .theirs
@@ -104,9 +100,9 @@ module _ (pool ours theirs both mine yours : List ℕ) (n : ManyCounts) (is : n 
     pub lists-answered : {both′ mine′ yours′ : List ℕ} {m : ManyCounts}
         → Put both 0 (sharedItems pool ours theirs) both′ (m .«in_both») → Put mine 0 (onlyItems pool ours theirs) mine′ (m .ours) → Put yours 0 (onlyItems pool theirs ours) yours′ (m .theirs)
         → (answered n ≡ roomAnswer pool ours theirs both mine yours)
-        × (both′ ≡ written (roomAnswer pool ours theirs both mine yours) (sharedItems pool ours theirs) both)
-        × (mine′ ≡ written (roomAnswer pool ours theirs both mine yours) (onlyItems pool ours theirs) mine)
-        × (yours′ ≡ written (roomAnswer pool ours theirs both mine yours) (onlyItems pool theirs ours) yours)
+        × (both′ ≡ written (roomAnswer pool ours theirs both mine yours) (plain (sharedItems pool ours theirs)) both)
+        × (mine′ ≡ written (roomAnswer pool ours theirs both mine yours) (plain (onlyItems pool ours theirs)) mine)
+        × (yours′ ≡ written (roomAnswer pool ours theirs both mine yours) (plain (onlyItems pool theirs ours)) yours)
     lists-answered p q r = (
       sym room-answered,
       rw room-answered (put-laid _ p shared-fits),

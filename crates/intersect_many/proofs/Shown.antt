@@ -34,7 +34,7 @@ use Rattle.query_item.specs.Items.{bytesOf, wordsOf, same}
 use Rattle.query_item.specs.Boundaries.{boundaryOf, compareIn, fromTo, itemBetween, toQueryItem}
 use Rattle.query_item.proofs.Laws.{rankIn, rank-says-in}
 use Rattle.intervals.proofs.Laws.{All}
-use Rattle.intersect.specs.Pair.{asItems}
+use Rattle.item_lists.specs.Written.{asItems}
 use Rattle.intersect_many.specs.Lists.{convertAll}
 use Rattle.intersect_many.specs.Demand.{Shown, shown}
 use Rattle.intersect_many.proofs.Carried.{iv, Fine}

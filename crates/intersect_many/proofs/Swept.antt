@@ -22,7 +22,8 @@ use Rattle.intervals.proofs.Laws.{AboveOf, Meeting, Cutting}
 use Rattle.intervals.proofs.Laws.{sweepOf, sweep-first, sweep-second, sweep-nil, sweep-is-shared, sweep-skip}
 use Rattle.intervals.proofs.Laws.{stripOf, strip-first, strip-second, strip-nil, strip-is-without, strip-skip, above-le}
 use Rattle.intersect_many.specs.declared.ManyCounts.{ManyCounts}
-use Rattle.intersect.specs.Pair.{before, meetSets, leftOver, asItems}
+use Rattle.item_lists.specs.Written.{asItems}
+use Rattle.intersect.specs.Pair.{before, meetSets, leftOver}
 use Rattle.intersect_many.specs.Lists.{setsOf, convertAll, sharedItems, cutSets, onlyItems}
 use Rattle.intersect_many.specs.Sweep.{rightSet, setsLeft, restLeft, Put, Turn}
 use Rattle.intersect_many.proofs.Pieces.{convert-append, convert-whole, put-none-converted, meet-few, left-few}

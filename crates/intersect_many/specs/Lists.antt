@@ -1,19 +1,19 @@
 -- Module 4 of document 01: the three lists of two lists of items. Definitions only. Assumes nothing.
-use Prim.Native.Nat.{ℕ, _/_}
+use Prim.Native.Nat.{ℕ}
 use mathlib.Core.List.{List, [], _∷_, _++_, map}
 use mathlib.Core.Bool.{Bool, cond, _||_}
-use lib.ListN.{length, drop}
-use lib.Dec.{ltb}
+use lib.ListN.{length}
 use Rattle.intervals.specs.Lists.{sharedOf, withoutOf}
 use Rattle.query_item.specs.declared.QueryItem.{QueryItem}
 use Rattle.query_item.specs.declared.RangeSet.{RangeSet}
-use Rattle.query_item.specs.Items.{itemSize, wordsOf, flat}
+use Rattle.query_item.specs.Items.{flatAll}
 use Rattle.query_item.specs.Boundaries.{rangeOf, toQueryItem}
 use Rattle.item_check.specs.Checks.{Answer, answered, refused, Verdict, accepted, andThen, refusedAs, poolVerdict, listVerdict, itemsOf}
+use Rattle.item_lists.specs.Written.{asItems, plain, passes}
 use Rattle.intersect_many.specs.declared.ManyCounts.{ManyCounts}
 use Rattle.intersect_many.specs.declared.ManyAnswer.{ManyAnswer}
 use Rattle.intersect_many.specs.declared.ManyAnswer.the-variants as many
-use Rattle.intersect.specs.Pair.{meetSets, leftOver, rightOver, asItems}
+use Rattle.intersect.specs.Pair.{meetSets, leftOver, rightOver}
 
 -- 01 m3.7: the ranges of a list's items, in order; wrappers are read through
 abbrev pub setsOf : List ℕ → List RangeSet
@@ -37,15 +37,9 @@ cutSets pool a b = leftOver pool a b ++ rightOver pool a b
 unfoldable pub onlyItems : List ℕ → List ℕ → List ℕ → List QueryItem
 onlyItems pool ours theirs = convertAll pool (withoutOf (cutSets pool) (setsOf ours) (setsOf theirs))
 
--- ---- as words (01 change.1)
-
-unfoldable pub wordsAll : List QueryItem → List ℕ
-wordsAll [] = []
-wordsAll (q ∷ Q) = flat (wordsOf 0 q) ++ wordsAll Q
-
--- 01 m4.5: words past the written items keep their bytes
-abbrev pub laidOver : List ℕ → List QueryItem → List ℕ
-laidOver out Q = wordsAll Q ++ drop (length (wordsAll Q)) out
+-- 01 change.1: as the words that are written
+abbrev pub wordsAll : List QueryItem → List ℕ
+wordsAll Q = flatAll (plain Q)
 
 -- ---- the call: the pool, ours entirely, theirs entirely, then the room of the three lists, whole items (01 refusal.6)
 
@@ -60,9 +54,6 @@ abbrev pub listsVerdict : List ℕ → List ℕ → List ℕ → Verdict
 listsVerdict pool ours theirs = andThen (poolVerdict pool) (bothVerdict pool ours theirs)
 
 -- 01 no.6: more items than an output has room for
-abbrev pub passes : ℕ → List ℕ → Bool
-passes count out = ltb (length out / itemSize) count
-
 abbrev pub lacksRoom : ManyCounts → List ℕ → List ℕ → List ℕ → Bool
 lacksRoom c shared ours theirs = passes (c .«in_both») shared || passes (c .ours) ours || passes (c .theirs) theirs
 
@@ -84,8 +75,3 @@ roomAnswer pool ours theirs outShared outOurs outTheirs =
 abbrev pub manyAnswer : List ℕ → List ℕ → List ℕ → List ℕ → List ℕ → List ℕ → Answer ManyCounts
 manyAnswer pool ours theirs outShared outOurs outTheirs =
     andThen (listsVerdict pool ours theirs) (roomAnswer pool ours theirs outShared outOurs outTheirs)
-
--- 01 demand.1: an output afterwards: items laid over it where the call answers; a refusal leaves it as it was
-abbrev pub written : {A : Type 0} → Answer A → List QueryItem → List ℕ → List ℕ
-written (answered c) Q out = laidOver out Q
-written (refused n s i) Q out = out

@@ -1,24 +1,20 @@
 -- What the one pass over both lists goes by. No promise of a public call cites this. It serves 01 m4.1, m4.2, m4.3. Assumes nothing.
-use Prim.Native.Nat.{ℕ, suc, _+_, _-_, _/_, _≤_}
+use Prim.Native.Nat.{ℕ, _+_, _-_, _/_, _≤_}
 use mathlib.Core.Path.{_≡_}
 use mathlib.Core.List.{List, [], _∷_, map}
 use mathlib.Core.Bool.{true, cond, not}
 use Rattle.query_item.specs.declared.QueryItem.{QueryItem}
 use Rattle.query_item.specs.declared.RangeSet.{RangeSet}
 use lib.ListN.{length}
-use Rattle.query_item.specs.Items.{itemSize, itemsFrom, wordsOf, withItem}
+use Rattle.query_item.specs.Items.{itemSize, itemsFrom}
 use Rattle.query_item.specs.Boundaries.{compareIn, invertOf, fromTo, rangeOf}
 use Rattle.key_order.specs.declared.Ordering.{Ordering}
 use Rattle.key_order.specs.Order.{isLess, isAtMost}
+use Rattle.item_lists.specs.Written.{plain, putAll}
 use Rattle.intersect.specs.Pair.{before, overlap, meetSets, leftPart, leftOver}
 use Rattle.intersect_many.specs.declared.ManyCounts.{ManyCounts}
 use Rattle.intersect_many.specs.declared.Stand.{Stand}
 use Rattle.intersect_many.specs.declared.Stand.the-variants.{Before, After, Meets}
-
--- items written one after another from index n on, as far as there is room
-unfoldable pub putAll : List ℕ → ℕ → List QueryItem → List ℕ
-putAll out n [] = out
-putAll out n (q ∷ Q) = putAll (withItem out n (wordsOf 0 q)) (suc n) Q
 
 -- what of a stands past b, where b ends first
 unfoldable pub rightSet : List ℕ → RangeSet → RangeSet → RangeSet
@@ -38,7 +34,7 @@ restLeft ws i s = withHead s (setsLeft ws i)
 -- items written from a count on: the next count, and the words
 pub record Put (out : List ℕ) (n : ℕ) (Q : List QueryItem) (out′ : List ℕ) (n′ : ℕ) : Type 0 where
   pub count : n′ ≡ n + length Q
-  pub words : out′ ≡ putAll out n Q
+  pub words : out′ ≡ putAll out n (plain Q)
 
 -- no list has more items than both lists together
 pub record Few (ours theirs : List ℕ) (n : ManyCounts) : Type 0 where

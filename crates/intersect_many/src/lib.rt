@@ -9,8 +9,9 @@ ghost use Prim.Native.Nat.{_+_, _/_, _≤_};
 ghost use lib.ListN.{length};
 ghost use Rattle.query_item.specs.Items.{itemSize};
 ghost use Rattle.item_check.specs.Checks.{verdictOf, accepted, listVerdict};
-ghost use Rattle.intersect.specs.Pair.{meetSets, leftPart, leftOver, asItems};
-ghost use Rattle.intersect_many.specs.Lists.{convertAll, sharedItems, onlyItems, manyOf, bothVerdict, listsVerdict, passes, lacksRoom, countsOf, roomAnswer, manyAnswer, written};
+ghost use Rattle.item_lists.specs.Written.{asItems, plain, written};
+ghost use Rattle.intersect.specs.Pair.{meetSets, leftPart, leftOver};
+ghost use Rattle.intersect_many.specs.Lists.{convertAll, sharedItems, onlyItems, manyOf, bothVerdict, listsVerdict, lacksRoom, countsOf, roomAnswer, manyAnswer};
 ghost use Rattle.intersect_many.specs.Sweep.{rightSet, restLeft, standOf, Put, Few, Turn};
 use boundary::is_at_most;
 use boundary::is_less;
@@ -23,9 +24,9 @@ use item_check::Refusal;
 use item_check::check_pool;
 use item_check::check_words;
 use item_check::set_at;
+use item_lists::passes_room;
+use item_lists::put_item;
 use item_words::ITEM_SIZE;
-use item_words::words_of;
-use item_words::write_item;
 use key_order::Ordering;
 use query_item::MaybeItem;
 use query_item::RangeSet;
@@ -64,9 +65,9 @@ pub fn intersect_many_ordered(
     yours: &mut [u32],
 ) -> ManyAnswer
     ensures { λ r. ⌜ manyOf r ≡ manyAnswer (now (pool .entry)) (now (ours .entry)) (now (theirs .entry)) (now (both .entry)) (now (mine .entry)) (now (yours .entry)) ⌝ }
-    ensures { λ _. ⌜ now (both .exit) ≡ written (manyAnswer (now (pool .entry)) (now (ours .entry)) (now (theirs .entry)) (now (both .entry)) (now (mine .entry)) (now (yours .entry))) (sharedItems (now (pool .entry)) (now (ours .entry)) (now (theirs .entry))) (now (both .entry)) ⌝ }
-    ensures { λ _. ⌜ now (mine .exit) ≡ written (manyAnswer (now (pool .entry)) (now (ours .entry)) (now (theirs .entry)) (now (both .entry)) (now (mine .entry)) (now (yours .entry))) (onlyItems (now (pool .entry)) (now (ours .entry)) (now (theirs .entry))) (now (mine .entry)) ⌝ }
-    ensures { λ _. ⌜ now (yours .exit) ≡ written (manyAnswer (now (pool .entry)) (now (ours .entry)) (now (theirs .entry)) (now (both .entry)) (now (mine .entry)) (now (yours .entry))) (onlyItems (now (pool .entry)) (now (theirs .entry)) (now (ours .entry))) (now (yours .entry)) ⌝ }
+    ensures { λ _. ⌜ now (both .exit) ≡ written (manyAnswer (now (pool .entry)) (now (ours .entry)) (now (theirs .entry)) (now (both .entry)) (now (mine .entry)) (now (yours .entry))) (plain (sharedItems (now (pool .entry)) (now (ours .entry)) (now (theirs .entry)))) (now (both .entry)) ⌝ }
+    ensures { λ _. ⌜ now (mine .exit) ≡ written (manyAnswer (now (pool .entry)) (now (ours .entry)) (now (theirs .entry)) (now (both .entry)) (now (mine .entry)) (now (yours .entry))) (plain (onlyItems (now (pool .entry)) (now (ours .entry)) (now (theirs .entry)))) (now (mine .entry)) ⌝ }
+    ensures { λ _. ⌜ now (yours .exit) ≡ written (manyAnswer (now (pool .entry)) (now (ours .entry)) (now (theirs .entry)) (now (both .entry)) (now (mine .entry)) (now (yours .entry))) (plain (onlyItems (now (pool .entry)) (now (theirs .entry)) (now (ours .entry)))) (now (yours .entry)) ⌝ }
 {
     match check_lists(pool, ours, theirs) {
         Checked::Refused(r) => ManyAnswer::Refused(r),
@@ -79,13 +80,7 @@ fn put(out: &mut [u32], n: usize, item: MaybeItem) -> usize
     requires { ⌜ n ≤ 4096 ⌝ }
     ensures { λ r. ⌜ Put (now (out .entry)) n (asItems item) (now (out .exit)) r ⌝ }
 {
-    match item {
-        MaybeItem::NoItem => n,
-        MaybeItem::Item(q) => {
-            write_item(out, n, words_of(0, q));
-            n + 1
-        }
-    }
+    n + put_item(out, n, item)
 }
 
 // What of a stands past b, where b ends first.
@@ -305,12 +300,6 @@ fn lack_room(n: ManyCounts, both: &[u32], mine: &[u32], yours: &[u32]) -> bool
     passes_room(n.in_both, both) | passes_room(n.ours, mine) | passes_room(n.theirs, yours)
 }
 
-fn passes_room(count: usize, out: &[u32]) -> bool
-    ensures { λ r. ⌜ r ≡ passes count (now (out .entry)) ⌝ }
-{
-    out.len() / ITEM_SIZE < count
-}
-
 // The lists at once where there is room for the most that they can have; else the room that they need, known before anything is written, and
 // then the lists.
 fn write_lists(
@@ -323,9 +312,9 @@ fn write_lists(
 ) -> ManyAnswer
     requires { ⌜ (listVerdict (now pool) (now ours) 0 ≡ accepted) × (listVerdict (now pool) (now theirs) 1 ≡ accepted) ⌝ }
     ensures { λ r. ⌜ manyOf r ≡ roomAnswer (now (pool .entry)) (now (ours .entry)) (now (theirs .entry)) (now (both .entry)) (now (mine .entry)) (now (yours .entry)) ⌝ }
-    ensures { λ _. ⌜ now (both .exit) ≡ written (roomAnswer (now (pool .entry)) (now (ours .entry)) (now (theirs .entry)) (now (both .entry)) (now (mine .entry)) (now (yours .entry))) (sharedItems (now (pool .entry)) (now (ours .entry)) (now (theirs .entry))) (now (both .entry)) ⌝ }
-    ensures { λ _. ⌜ now (mine .exit) ≡ written (roomAnswer (now (pool .entry)) (now (ours .entry)) (now (theirs .entry)) (now (both .entry)) (now (mine .entry)) (now (yours .entry))) (onlyItems (now (pool .entry)) (now (ours .entry)) (now (theirs .entry))) (now (mine .entry)) ⌝ }
-    ensures { λ _. ⌜ now (yours .exit) ≡ written (roomAnswer (now (pool .entry)) (now (ours .entry)) (now (theirs .entry)) (now (both .entry)) (now (mine .entry)) (now (yours .entry))) (onlyItems (now (pool .entry)) (now (theirs .entry)) (now (ours .entry))) (now (yours .entry)) ⌝ }
+    ensures { λ _. ⌜ now (both .exit) ≡ written (roomAnswer (now (pool .entry)) (now (ours .entry)) (now (theirs .entry)) (now (both .entry)) (now (mine .entry)) (now (yours .entry))) (plain (sharedItems (now (pool .entry)) (now (ours .entry)) (now (theirs .entry)))) (now (both .entry)) ⌝ }
+    ensures { λ _. ⌜ now (mine .exit) ≡ written (roomAnswer (now (pool .entry)) (now (ours .entry)) (now (theirs .entry)) (now (both .entry)) (now (mine .entry)) (now (yours .entry))) (plain (onlyItems (now (pool .entry)) (now (ours .entry)) (now (theirs .entry)))) (now (mine .entry)) ⌝ }
+    ensures { λ _. ⌜ now (yours .exit) ≡ written (roomAnswer (now (pool .entry)) (now (ours .entry)) (now (theirs .entry)) (now (both .entry)) (now (mine .entry)) (now (yours .entry))) (plain (onlyItems (now (pool .entry)) (now (theirs .entry)) (now (ours .entry)))) (now (yours .entry)) ⌝ }
 {
     let all = ours.len() / ITEM_SIZE + theirs.len() / ITEM_SIZE;
     let most = ManyCounts {

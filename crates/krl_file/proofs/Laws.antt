@@ -15,9 +15,11 @@ use Rattle.item_check.proofs.Laws.{refused-apart}
 use Rattle.krl_file.specs.declared.FileParts.{FileParts}
 use Rattle.krl_file.specs.declared.FileAnswer.{FileAnswer}
 use Rattle.krl_file.specs.declared.FileAnswer.the-variants.{Read, Refused}
-use Rattle.krl_file.specs.File.{headSize, recordSize, poolLength, oursCount, theirsCount, oursFrom, theirsFrom, wellFormed, poolOf, oursOf, theirsOf, laidOver, fileAnswerOf, partsOf, passes, roomAnswer, fileAnswer}
-use Rattle.krl_file.proofs.Written.{length-records, length-flat}
-use Rattle.krl_file.proofs.Listed.{items-read}
+use Rattle.krl_file.specs.File.{headSize, recordSize, poolLength, oursCount, theirsCount, oursFrom, theirsFrom, wellFormed, poolOf, oursOf, theirsOf, fileAnswerOf, partsOf, roomAnswer, fileAnswer}
+use Rattle.item_lists.specs.Written.{passes, laidOver}
+use Rattle.item_lists.proofs.Written.{length-flat}
+use Rattle.item_lists.proofs.Read.{items-read}
+use Rattle.krl_file.proofs.Written.{length-records}
 -- a well-formed file is small, marked, of the version, and as long as its head says
 pub use Rattle.krl_file.proofs.Room.{WholeFile, well-formed→whole}
 

@@ -10,8 +10,9 @@ use borrow.Author.Tests.{ltb-false, leb-true, eqb-true}
 use Rattle.query_item.specs.Items.{itemSize}
 use Rattle.item_check.specs.Checks.{answered, refused, andThen}
 use Rattle.item_check.proofs.Laws.{or-false}
+use Rattle.item_lists.specs.Written.{passes, laidOver}
 use Rattle.krl_file.specs.declared.FileParts.{FileParts}
-use Rattle.krl_file.specs.File.{headSize, recordSize, mostFile, hasMark, hasVersion, poolLength, oursCount, theirsCount, wholeSize, wellFormed, recordsFrom, oursOf, theirsOf, laidOver, partsOf, passes, roomVerdict, roomAnswer}
+use Rattle.krl_file.specs.File.{headSize, recordSize, mostFile, hasMark, hasVersion, poolLength, oursCount, theirsCount, wholeSize, wellFormed, recordsFrom, oursOf, theirsOf, partsOf, roomVerdict, roomAnswer}
 
 both : (p q : Bool) → p && q ≡ true → (p ≡ true) × (q ≡ true)
 both true q e = (refl, e)

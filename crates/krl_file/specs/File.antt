@@ -1,12 +1,13 @@
 -- Module 7 of document 01: the KRL file, and reading it to lent lists of items. Definitions only. Assumes nothing.
-use Prim.Native.Nat.{ℕ, zero, suc, _+_, _*_, _/_}
-use mathlib.Core.List.{List, [], _∷_, _++_}
+use Prim.Native.Nat.{ℕ, zero, suc, _+_, _*_}
+use mathlib.Core.List.{List, [], _∷_}
 use mathlib.Core.Bool.{Bool, cond, _||_, _&&_}
 use lib.ListN.{length, getD, take, drop}
-use lib.Dec.{ltb, leb, eqb}
+use lib.Dec.{leb, eqb}
 use Rattle.query_item.specs.declared.ItemWords.{ItemWords}
-use Rattle.query_item.specs.Items.{keyAt, itemWords, itemSize, flatAll}
+use Rattle.query_item.specs.Items.{keyAt, itemWords}
 use Rattle.item_check.specs.Checks.{Answer, answered, refused, Verdict, accepted, andThen, refusedAs}
+use Rattle.item_lists.specs.Written.{passes}
 use Rattle.krl_file.specs.declared.FileParts.{FileParts}
 use Rattle.krl_file.specs.declared.FileAnswer.{FileAnswer}
 use Rattle.krl_file.specs.declared.FileAnswer.the-variants as file-answer
@@ -99,12 +100,6 @@ oursOf file = recordsFrom file (oursFrom file) (oursCount file)
 abbrev pub theirsOf : List ℕ → List ItemWords
 theirsOf file = recordsFrom file (theirsFrom file) (theirsCount file)
 
--- ---- as words
-
--- 01 refusal.5: spare words of a buffer lent for writing stay
-abbrev pub laidOver : List ℕ → List ItemWords → List ℕ
-laidOver out its = flatAll its ++ drop (length (flatAll its)) out
-
 -- ---- the call: 10, then the room of the two lists
 
 -- 01 form.11: the paper's numbers for each case of the answer
@@ -114,10 +109,6 @@ fileAnswerOf (file-answer.Refused r) = refusedAs r
 
 abbrev pub partsOf : List ℕ → FileParts
 partsOf file = record { pool = poolLength file; ours = oursCount file; theirs = theirsCount file }
-
--- 01 refusal.5: room means whole items
-abbrev pub passes : ℕ → List ℕ → Bool
-passes count out = ltb (length out / itemSize) count
 
 -- 01 no.6, refusal.2: the result needs more room than lent; room gives 0 and 0
 abbrev pub roomVerdict : FileParts → List ℕ → List ℕ → Verdict
@@ -129,8 +120,3 @@ roomAnswer file ours theirs = andThen (roomVerdict (partsOf file) ours theirs) (
 -- 01 refusal.6: 10 first, 6 last
 abbrev pub fileAnswer : List ℕ → List ℕ → List ℕ → Answer FileParts
 fileAnswer file ours theirs = andThen (fileVerdict file) (roomAnswer file ours theirs)
-
--- 01 demand.1: a lent list afterwards: items laid over it where the call answers; a refusal leaves it as it was
-abbrev pub written : {A : Type 0} → Answer A → List ItemWords → List ℕ → List ℕ
-written (answered a) its out = laidOver out its
-written (refused n s i) its out = out

@@ -6,9 +6,10 @@ ghost use mathlib.Core.Bool.{true};
 ghost use Prim.Native.Nat.{_+_, _*_, _/_, _<_, _≤_};
 ghost use lib.ListN.{length};
 ghost use Rattle.query_item.specs.Items.{itemSize};
-ghost use Rattle.krl_file.specs.File.{recordSize, mostFile, byteAt, u16At, hasMark, hasVersion, poolLength, oursCount, theirsCount, wholeSize, wellFormed, poolOf, recordAt, recordsFrom, oursOf, theirsOf, laidOver, fileAnswerOf, partsOf, passes, roomAnswer, fileAnswer, written};
+ghost use Rattle.item_lists.specs.Written.{laidOver, written};
+ghost use Rattle.krl_file.specs.File.{recordSize, mostFile, byteAt, u16At, hasMark, hasVersion, poolLength, oursCount, theirsCount, wholeSize, wellFormed, poolOf, recordAt, recordsFrom, oursOf, theirsOf, fileAnswerOf, partsOf, roomAnswer, fileAnswer};
 use item_check::Refusal;
-use item_words::ITEM_SIZE;
+use item_lists::passes_room;
 use item_words::write_item;
 use query_item::ItemWords;
 use query_item::KeyAt;
@@ -142,12 +143,6 @@ fn theirs_count(file: &[u8]) -> u32
     ensures { λ r. ⌜ r ≡ theirsCount (now (file .entry)) ⌝ }
 {
     u16_at(file, 9)
-}
-
-fn passes_room(count: usize, out: &[u32]) -> bool
-    ensures { λ r. ⌜ r ≡ passes count (now (out .entry)) ⌝ }
-{
-    out.len() / ITEM_SIZE < count
 }
 
 // Writes n records, the first of which starts at a byte, to the front of a list. Each turn writes one.

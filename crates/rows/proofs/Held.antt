@@ -8,7 +8,7 @@ use Rattle.item_check.specs.Checks.{firstBad, firstBreak, strictVerdict}
 use Rattle.intervals.specs.Lists.{meetsOf, sharedOf, cutsOf, withoutOf}
 use Rattle.intervals.specs.Intervals.{inside, holds}
 use Rattle.intersect.specs.Pair.{meetSets, leftOver, rightOver}
-use Rattle.intersect_many.specs.Lists.{convertAll, sharedItems, onlyItems, wordsAll}
+use Rattle.intersect_many.specs.Lists.{convertAll, sharedItems, onlyItems}
 use Rattle.insert_order.specs.Order.{orderItems, sameItem, endsBelow, clashes}
 use Rattle.insert_order.specs.Refusals.{firstClash}
 use Rattle.insert_merge.specs.Merge.{fateOf, staying, merged, mergedWith}
@@ -22,5 +22,5 @@ use Rattle.position_mismatch.specs.Reports.{isIn, keep, missing, reportOf}
 use Rattle.rows.specs.Rows.{Result, Row, rows}
 
 pub rows-hold : map {B = Result} (λ (r : Row). r .0) rows ≡ map (λ (r : Row). r .1) rows
-unfolding compareNumbers compareKeys compareBoundaries itemAt itemsFrom flatAll firstBad firstBreak strictVerdict meetsOf sharedOf cutsOf withoutOf meetSets leftOver rightOver convertAll sharedItems onlyItems wordsAll orderItems sameItem endsBelow clashes fateOf staying merged mergedWith placed inserted firstClash inside holds pairsFrom firstTouching canonicalVerdict firstFalling ascendingVerdict countUp positionsOf beBytes holdsPosition someHolds covered firstFault isIn keep missing reportOf
+unfolding compareNumbers compareKeys compareBoundaries itemAt itemsFrom flatAll firstBad firstBreak strictVerdict meetsOf sharedOf cutsOf withoutOf meetSets leftOver rightOver convertAll sharedItems onlyItems orderItems sameItem endsBelow clashes fateOf staying merged mergedWith placed inserted firstClash inside holds pairsFrom firstTouching canonicalVerdict firstFalling ascendingVerdict countUp positionsOf beBytes holdsPosition someHolds covered firstFault isIn keep missing reportOf
 rows-hold = refl

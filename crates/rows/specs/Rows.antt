@@ -19,7 +19,8 @@ use Rattle.boundary.specs.Kinds.{boundary}
 use Rattle.item_check.specs.Checks.{Answer, answered, refused, Verdict, itemsOf}
 use Rattle.intersect_many.specs.declared.ManyCounts.{ManyCounts}
 use Rattle.intersect.specs.declared.QueryItemIntersectionResult.{QueryItemIntersectionResult}
-use Rattle.intersect.specs.Pair.{asItems, pairAnswer}
+use Rattle.item_lists.specs.Written.{asItems}
+use Rattle.intersect.specs.Pair.{pairAnswer}
 use Rattle.intersect_many.specs.Lists.{sharedItems, onlyItems, manyAnswer}
 use Rattle.intersect_many.specs.Demand.{Shown, shown}
 use Rattle.insert.specs.Answers.{insertAnswer, listAfter}

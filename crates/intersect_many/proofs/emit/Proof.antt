@@ -5,7 +5,8 @@ use mathlib.Core.Path.{_≡_, ap, _∙_}
 use mathlib.Core.Bool.{cond, not}
 use mathlib.Core.List.{[]}
 use Rattle.query_item.specs.Boundaries.{toQueryItem}
-use Rattle.intersect.specs.Pair.{overlap, leftPart, asItems}
+use Rattle.item_lists.specs.Written.{asItems}
+use Rattle.intersect.specs.Pair.{overlap, leftPart}
 use Rattle.intersect_many.specs.Lists.{convertAll}
 use borrow.Author.Needs.{needs}
 use Rattle.intersect_many.proofs.emit.Statement.{statement}

@@ -1,27 +1,15 @@
 -- `intersect_many::put` meets its contract: nothing, or one item. Assumes nothing.
-use Rattle.intersect_many.specs.Sweep.{putAll}
-use mathlib.Core.Path.{refl, _∙_}
+use native.Mathlib.Omega.{arith}
 use borrow.Author.Needs.{needs}
+use Rattle.intersect_many.proofs.Written.{one}
 use Rattle.intersect_many.proofs.put.Statement.{statement}
 use Rattle.intersect_many.proofs.put.Tie as tie
 
-returns : tie.Need-returns
-unfolding putAll
-returns c = rw (c .enum-told .given .1) record { count = search needs; words = refl }
+add-result : tie.Need-add-result
+add-result c = omega (arith, c .before .before .put-item .ensures .0, one (c .before .before .before .before .before .args .item), c .before .before .before .before .before .pre)
 
-returns-2 : tie.Need-returns-2
-unfolding putAll
-returns-2 c = rw (c .before .before .before .before .before .before .item .given .1) record { count = search needs; words = c .before .before .write-item .ensures ∙ rw (c .before .before .before .words-of .ensures) }
+returns : tie.Need-returns
+returns c = record { count = omega (arith, c .before .before .put-item .ensures .0); words = c .before .before .put-item .ensures .1 }
 
 pub put-spec : {M : Type 1} → statement M
-put-spec =
-    tie.close
-    (tie.spec
-    (λ c. search needs)
-    (λ c. search needs)
-    (λ c κs. search needs)
-    (λ c κs. search needs)
-    (λ c. search needs)
-    returns
-    (λ c. search needs)
-    returns-2)
+put-spec = tie.close (tie.spec (λ c κs. search needs) add-result (λ c. search needs) returns)

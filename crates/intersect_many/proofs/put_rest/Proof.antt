@@ -4,20 +4,13 @@ use Prim.Native.Nat.{_+_, _-_, _≤_}
 use mathlib.Core.Path.{_∙_}
 use native.Mathlib.Omega.{arith}
 use borrow.Author.Needs.{needs}
-use lib.ListN.{length}
-use Rattle.query_item.specs.declared.MaybeItem.{MaybeItem}
-use Rattle.query_item.specs.declared.MaybeItem.the-variants.{NoItem, Item}
-use Rattle.intersect.specs.Pair.{asItems}
+use Rattle.item_lists.specs.Written.{asItems}
 use Rattle.intersect_many.specs.Lists.{convertAll}
 use Rattle.intersect_many.specs.Sweep.{setsLeft}
-use Rattle.intersect_many.proofs.Written.{Left, left-start, left-put, left-done, put-then, put-none}
+use Rattle.intersect_many.proofs.Written.{one, Left, left-start, left-put, left-done, put-then, put-none}
 use Rattle.intersect_many.proofs.Rests.{sets-end, rest-end, convert-more, convert-rest}
 use Rattle.intersect_many.proofs.put_rest.Statement.{statement}
 use Rattle.intersect_many.proofs.put_rest.Tie as tie
-
-one : (m : MaybeItem) → length (asItems m) ≤ 1
-one NoItem = omega arith
-one (Item q) = omega arith
 
 abbrev Inv-loop : tie.InvT-loop
 Inv-loop pool words i out₀ n count m₀ k₀ out m k =

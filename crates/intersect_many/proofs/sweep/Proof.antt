@@ -274,7 +274,7 @@ put-rest-requires-2 : tie.Need-put-rest-requires-2 Inv-loop μ-loop
 put-rest-requires-2 c κs = omega (arith, c .before .before .before .before .before .before .loop .inv)
 
 same-length : tie.Need-same-length Inv-loop μ-loop
-same-length c = c .before .before .before .before .before .before .before .before .before .loop .inv .shared .same
+same-length c = c .before .before .before .before .before .before .before .before .before .loop .inv .shared .words .same
 
 same-length-2 : tie.Need-same-length-2 Inv-loop μ-loop
 same-length-2 c = search needs

@@ -3,12 +3,12 @@
 use mathlib.Core.Path.{_∙_}
 use Prim.Native.Nat.{_-_}
 use borrow.Author.Needs.{needs}
-use Rattle.krl_file.proofs.Written.{Left, left-start, left-more, left-done}
+use Rattle.krl_file.proofs.Written.{Writing, writing-start, writing-more, writing-done}
 use Rattle.krl_file.proofs.write_records.Statement.{statement}
 use Rattle.krl_file.proofs.write_records.Tie as tie
 
 abbrev Inv-loop : tie.InvT-loop
-Inv-loop file from n out₀ at₀ i₀ out at i = Left file from n out₀ out at i
+Inv-loop file from n out₀ at₀ i₀ out at i = Writing file from n out₀ out at i
 
 abbrev μ-loop : tie.MeasureT-loop
 μ-loop file from n out₀ at₀ i₀ out at i = n - i
@@ -16,18 +16,18 @@ abbrev μ-loop : tie.MeasureT-loop
 loop-holds : tie.Need-loop-holds Inv-loop μ-loop
 loop-holds c =
     let a = c .before .before .args in
-    left-start (a .file .now) (a .from) (a .n) (a .out .now)
+    writing-start (a .file .now) (a .from) (a .n) (a .out .now)
 
 loop-again : tie.Need-loop-again Inv-loop μ-loop
 loop-again c =
-    left-more (c .before .before .before .before .before .before .loop .inv) (c .before .before .before .before .before .loop-test .taken) (c .before .before .before .before .before .before .before .before .before .pre .1)
+    writing-more (c .before .before .before .before .before .before .loop .inv) (c .before .before .before .before .before .loop-test .taken)
     (c .before .before .write-item .ensures ∙ rw (c .before .before .before .record-at .ensures))
 
 same-length : tie.Need-same-length Inv-loop μ-loop
-same-length c = c .before .loop .inv .same
+same-length c = c .before .loop .inv .left .same
 
 returns : tie.Need-returns Inv-loop μ-loop
-returns c = left-done (c .before .loop .inv) (c .loop-test .left) (c .before .before .before .before .pre .1)
+returns c = writing-done (c .before .loop .inv) (c .loop-test .left) (c .before .before .before .before .pre .1)
 
 pub write-records-spec : {M : Type 1} → statement M
 write-records-spec =

@@ -6,7 +6,7 @@ use Rattle.fernsponge.proofs.numbers.set_numbers.Tie as tie
 
 returns : tie.Need-returns
 unfolding setWords
-returns c = cc
+returns c = rw (c .kind-number2 .ensures, c .before .kind-of2 .ensures, c .before .before .kind-number .ensures, c .before .before .before .kind-of .ensures, c .before .before .before .before .key-of2 .ensures, c .before .before .before .before .before .key-of .ensures)
 
 pub set-numbers-spec : {M : Type 1} → statement M
 set-numbers-spec =

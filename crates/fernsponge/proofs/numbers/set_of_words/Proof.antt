@@ -6,7 +6,7 @@ use Rattle.fernsponge.proofs.numbers.set_of_words.Tie as tie
 
 returns : tie.Need-returns
 unfolding setOfWords
-returns c = cc
+returns c = rw (c .with-key2 .ensures, c .before .kind-numbered2 .ensures, c .before .before .with-key .ensures, c .before .before .before .kind-numbered .ensures)
 
 pub set-of-words-spec : {M : Type 1} → statement M
 set-of-words-spec =
