@@ -5,7 +5,7 @@ use mathlib.Core.List.{List}
 use lib.ListN.{length}
 use Rattle.item_check.specs.Checks.{Answer, answered, andThen}
 use Rattle.position_query.specs.Covered.{buildVerdict, FromQueryItems}
-use Rattle.position_mismatch.specs.declared.PositionMismatch.{PositionMismatch}
+use Rattle.position_report.specs.declared.PositionMismatch.{PositionMismatch}
 use Rattle.fernsponge.specs.Answers.{returned, left}
 
 -- 01 m6.10: a report of three parts

@@ -5,8 +5,8 @@ ghost use lib.ListN.{length};
 ghost use Rattle.item_check.specs.Checks.{answered};
 ghost use Rattle.position_intervals.specs.Asked.{containsAnswer, lenAnswer, isEmptyAnswer, yesOrNoOf};
 ghost use Rattle.position_key.specs.Keys.{positionAnswer};
+ghost use Rattle.position_report.specs.Reports as reports;
 ghost use Rattle.position_mismatch.specs.Reports.{comparedOf, missingAnswer, extraAnswer, spansAnswer};
-ghost use Rattle.position_mismatch.specs.Reports as reports;
 ghost use Rattle.position_spans.specs.Spans.{spanPairs};
 ghost use Rattle.position_describe.specs.Text.{describeAnswer, describedIn};
 ghost use Rattle.fernsponge.specs.Answers.{boolNumber, returned, left, itself};
@@ -21,8 +21,8 @@ use position_intervals::RowCount;
 use position_intervals::YesOrNo;
 use position_key::PositionKey;
 use position_mismatch::Compared;
-use position_mismatch::PositionMismatch;
 use position_query::Built;
+use position_report::PositionMismatch;
 use position_spans::Span;
 
 // A key that is no position: number 7, side 0, index 0.

@@ -1,7 +1,7 @@
 -- Both forms of the text, by computation. Assumes nothing.
 use mathlib.Core.Path.{_≡_, refl}
 use mathlib.Core.List.{[], _∷_}
-use Rattle.position_mismatch.specs.Reports.{reportOf}
+use Rattle.position_report.specs.Reports.{reportOf}
 use Rattle.lent_text.specs.Text.{digits}
 use Rattle.position_describe.specs.Text.{firstPart, laterNumbers, numbers, textOf}
 

@@ -11,8 +11,8 @@ use lib.ListN.{length, getD, take, drop, set, length-append, length-take, drop-o
 use lib.Seq.{sets, sets-eq, drop-cons, getD-take}
 use borrow.Author.Tests.{lt-ltb, le-ltb}
 use Rattle.item_check.proofs.Laws.{refused-apart}
-use Rattle.position_mismatch.specs.declared.PositionMismatch.{PositionMismatch}
-use Rattle.position_mismatch.specs.Reports.{mostReported}
+use Rattle.position_report.specs.declared.PositionMismatch.{PositionMismatch}
+use Rattle.position_report.specs.Reports.{mostReported}
 use Rattle.position_describe.specs.declared.Described.{Described}
 use Rattle.position_describe.specs.declared.Described.the-variants.{Bytes, Refused}
 use Rattle.position_describe.specs.Text.{positionsWord, firstPart, laterNumbers, numbers, numbersOf, textOf, mostText, describedOf}

@@ -6,8 +6,8 @@ use lib.ListN.{length, take, drop}
 use lib.Dec.{ltb}
 use Rattle.lent_text.specs.Text.{decimal}
 use Rattle.item_check.specs.Checks.{Answer, answered, refused, refusedAs}
-use Rattle.position_mismatch.specs.declared.PositionMismatch.{PositionMismatch}
-use Rattle.position_mismatch.specs.Reports.{mostReported}
+use Rattle.position_report.specs.declared.PositionMismatch.{PositionMismatch}
+use Rattle.position_report.specs.Reports.{mostReported}
 use Rattle.position_describe.specs.declared.Described.{Described}
 use Rattle.position_describe.specs.declared.Described.the-variants.{Bytes, Refused}
 

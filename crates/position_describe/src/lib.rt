@@ -7,10 +7,10 @@ ghost use mathlib.Core.List.{_∷_, []};
 ghost use Prim.Native.Nat.{_+_, _≤_, _<_};
 ghost use lib.ListN.{length};
 ghost use Rattle.position_describe.specs.Text.{firstPart, numbersOf, textOf, describedOf, describeAnswer, describedIn, refusedWith};
-ghost use Rattle.position_mismatch.specs.Reports.{mostReported};
+ghost use Rattle.position_report.specs.Reports.{mostReported};
 ghost use Rattle.lent_text.specs.Text.{decimal, stored};
 use item_check::Refusal;
-use position_mismatch::PositionMismatch;
+use position_report::PositionMismatch;
 
 // The longest text of a report: so many lent bytes are always room enough.
 pub const MAX_TEXT: usize = 394;

@@ -18,10 +18,11 @@ use Rattle.position_intervals.specs.Asked.{positionsOf}
 use Rattle.position_intervals.specs.Inner.{Sound, lastWord}
 use Rattle.position_intervals.proofs.Accepted.{sound}
 use Rattle.position_intervals.proofs.Widths.{Words, Ends}
-use Rattle.position_mismatch.specs.declared.PositionMismatch.{PositionMismatch}
+use Rattle.position_report.specs.declared.PositionMismatch.{PositionMismatch}
+use Rattle.position_report.specs.Reports.{reportOf}
 use Rattle.position_mismatch.specs.declared.SpanWalk.{SpanWalk}
 use Rattle.position_mismatch.specs.declared.Compared.{Compared}
-use Rattle.position_mismatch.specs.Reports.{missing, reportOf, comparedOf, reportIn, spansAnswer, firstCrossing}
+use Rattle.position_mismatch.specs.Reports.{missing, comparedOf, reportIn, spansAnswer, firstCrossing}
 use Rattle.position_mismatch.specs.Inner.{walkAt, overSpan, checkedOf, startOf, stepFrom, stepOf, stepsOf, reportFrom, finishOf}
 use Rattle.position_mismatch.proofs.Positions.{in-positions}
 use Rattle.position_mismatch.proofs.Walks.{Reached, reached-start, reached-over, reached-end}

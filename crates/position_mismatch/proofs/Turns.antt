@@ -21,12 +21,14 @@ use Rattle.position_intervals.specs.Asked.{countUp}
 use Rattle.position_intervals.specs.Inner.{Sound, Ascends, lastWord}
 use Rattle.position_intervals.proofs.Halves.{apart-below, apart-back}
 use Rattle.position_intervals.proofs.Widths.{Words}
-use Rattle.position_mismatch.specs.declared.PositionMismatch.{PositionMismatch}
+use Rattle.position_report.specs.declared.PositionMismatch.{PositionMismatch}
+use Rattle.position_report.specs.Reports.{reportOf}
+use Rattle.position_report.specs.Inner.{withRun}
+use Rattle.position_report.proofs.Runs.{run-report}
 use Rattle.position_mismatch.specs.declared.Walk.{Walk}
-use Rattle.position_mismatch.specs.Reports.{isIn, keep, missing, extra, reportOf}
-use Rattle.position_mismatch.specs.Inner.{withRun, walkAt, reportUntil, pairsLeft, overSpan, FirstPast}
+use Rattle.position_mismatch.specs.Reports.{isIn, keep, missing, extra}
+use Rattle.position_mismatch.specs.Inner.{walkAt, reportUntil, pairsLeft, overSpan, FirstPast}
 use Rattle.position_mismatch.proofs.Positions.{in-append, in-below, ascends-weaken, keep-append, keep-parts}
-use Rattle.position_mismatch.proofs.Runs.{run-report}
 use Rattle.position_mismatch.proofs.Walks.{Reached, reached-start, reached-over, reached-end}
 
 -- ---- the missing ones
@@ -70,6 +72,14 @@ module _ (ws P : List ℕ) (S : Sound ws) where
   seen-end w i W N h = reached-end ws (isIn (take i P)) w P W S (N .reached) (λ p l. rw (take-all i P h))
 
 -- ---- the extra ones
+
+-- a turn of `first_past`: the pairs that are passed, with the next
+pub passed-more : (ws : List ℕ) (from i p : ℕ) → ((k : ℕ) → from ≤ k → k < i → finish ws k ≤ p) → finish ws i ≤ p
+    → (k : ℕ) → from ≤ k → k < i + 1 → finish ws k ≤ p
+passed-more ws from i p h l k a b = elim (decLt k i) [
+  | yes u ↦ h k a u
+  | no u ↦ let q : k ≡ i = omega arith in rw q l
+]
 
 ascends-member : (lo : ℕ) (L : List ℕ) (p : ℕ) → Ascends lo L → isIn L p ≡ true → lo ≤ p
 ascends-member lo L p a e = elim (decLt p lo) [ yes h ↦ absurd (true≢false (sym e ∙ in-below lo L p a h)) | no h ↦ omega arith ]

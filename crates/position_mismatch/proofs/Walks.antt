@@ -19,11 +19,13 @@ use Rattle.position_intervals.specs.Asked.{countUp, positionsOf}
 use Rattle.position_intervals.specs.Inner.{Sound, Ascends, lastWord}
 use Rattle.position_intervals.proofs.Halves.{apart-below, apart-back}
 use Rattle.position_intervals.proofs.Widths.{Words, length-count, ends-of, ends-held}
-use Rattle.position_mismatch.specs.declared.PositionMismatch.{PositionMismatch}
+use Rattle.position_report.specs.declared.PositionMismatch.{PositionMismatch}
+use Rattle.position_report.specs.Reports.{reportOf}
+use Rattle.position_report.specs.Inner.{withRun}
+use Rattle.position_report.proofs.Runs.{run-report}
 use Rattle.position_mismatch.specs.declared.Walk.{Walk}
-use Rattle.position_mismatch.specs.Reports.{isIn, keep, missing, reportOf}
-use Rattle.position_mismatch.specs.Inner.{withRun, walkAt, withGap, reportUntil, pairsLeft, overSpan}
-use Rattle.position_mismatch.proofs.Runs.{run-report}
+use Rattle.position_mismatch.specs.Reports.{isIn, keep, missing}
+use Rattle.position_mismatch.specs.Inner.{walkAt, withGap, reportUntil, pairsLeft, overSpan}
 use Rattle.position_mismatch.proofs.Positions.{in-append, in-keep, in-positions, ascends-keep, ascends-append, ascends-raise, ascends-positions, ascends-unique, length-ascends, keep-append, keep-same, keep-none, keep-run, positions-append}
 
 -- ---- a turn
@@ -36,10 +38,9 @@ module _ (ws : List ℕ) (count i from to : ℕ) (report : PositionMismatch) whe
   unfolding reportUntil
   until-end h = rw (pairs-end ws i count h)
 
-  module _ (s m d : ℕ) (r : PositionMismatch) (is-s : s ≡ max (start ws i) from) (is-m : m ≡ min (finish ws i) to) (is-d : d ≡ m - s)
-      (is-r : r ≡ withRun report s d) where
+  module _ (s m : ℕ) (r : PositionMismatch) (is-s : s ≡ max (start ws i) from) (is-m : m ≡ min (finish ws i) to) (is-r : r ≡ withRun report s (m - s)) where
     is-gap : r ≡ withGap (start ws i, finish ws i) (walkAt i from report) to
-    is-gap = rw (is-r, is-d, is-m, is-s)
+    is-gap = rw (is-r, is-m, is-s)
 
     pub until-stop : i < count → to < finish ws i → untilLeft i report ≡ walkAt i from r
     unfolding reportUntil

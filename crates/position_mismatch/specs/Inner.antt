@@ -1,10 +1,9 @@
--- What private and inner functions require and promise: reports that grow, and the walks. No public call is promised by these. Definitions only.
+-- What private and inner functions require and promise: the walks. No public call is promised by these. Definitions only.
 -- It serves 01 m6.10, m6.11, form.9. Assumes nothing.
 use Prim.Native.Nat.{ℕ, _+_, _-_, _/_, _≤_, _<_, min, max}
 use mathlib.Core.Bool.{cond, _&&_}
 use mathlib.Core.List.{List, [], _∷_}
 use lib.ListN.{length}
-use lib.Seq.{sets}
 use lib.Dec.{leb, ltb}
 use Rattle.intervals.specs.Intervals.{Interval}
 use Rattle.item_check.specs.declared.Checked.{Checked}
@@ -12,32 +11,14 @@ use Rattle.item_check.specs.declared.Checked.the-variants.{Accepted, Refused}
 use Rattle.item_check.specs.Checks.{answered, refused, Verdict}
 use Rattle.pairs_sort.specs.Pairs.{finish, pairsFrom}
 use Rattle.position_intervals.specs.Given.{intervalsVerdict}
-use Rattle.position_intervals.specs.Asked.{countUp}
 use Rattle.position_intervals.specs.Inner.{lastWord}
-use Rattle.position_mismatch.specs.declared.PositionMismatch.{PositionMismatch}
+use Rattle.position_report.specs.declared.PositionMismatch.{PositionMismatch}
+use Rattle.position_report.specs.Reports.{reportOf}
+use Rattle.position_report.specs.Inner.{reportAt, withRun}
 use Rattle.position_mismatch.specs.declared.Walk.{Walk}
-use Rattle.position_mismatch.specs.declared.gaps.Counted.{Counted}
 use Rattle.position_mismatch.specs.declared.gaps.Place.{Place}
 use Rattle.position_mismatch.specs.declared.SpanWalk.{SpanWalk}
 use Rattle.position_mismatch.specs.declared.Compared.{Compared}
-use Rattle.position_mismatch.specs.Reports.{mostReported, reportOf}
-
--- ---- reports that grow
-
-abbrev pub reportAt : ℕ → ℕ → List ℕ → PositionMismatch
-reportAt n k l = record { total = n; count = k; examples = l }
-
--- a report whose examples are lent
-abbrev pub reportWith : Counted → List ℕ → PositionMismatch
-reportWith c examples = reportAt (c .total) (c .count) examples
-
--- a report with a run of positions added, width of them from `from` on: as many examples as there are places
-unfoldable pub withRun : PositionMismatch → ℕ → ℕ → PositionMismatch
-withRun r from width = record {
-  total = min (r .total + width) lastWord;
-  count = r .count + min (mostReported - r .count) width;
-  examples = sets (r .examples) (r .count) (countUp from (min (mostReported - r .count) width));
-}
 
 -- ---- a walk along the intervals: all positions below `from` are dealt with, and the pairs before `pair` are passed
 

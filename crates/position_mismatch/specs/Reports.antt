@@ -1,15 +1,15 @@
--- Which covered and proved positions are missing, extra and present; the check of spans; the reports, and the answers of the calls that
--- compare. Definitions only. Assumes nothing.
-use Prim.Native.Nat.{ℕ, suc, _-_, min}
-use mathlib.Core.List.{List, [], _∷_, _++_}
+-- Which covered and proved positions are missing, extra and present; the check of spans; the answers of the calls that compare. Definitions
+-- only. Assumes nothing.
+use Prim.Native.Nat.{ℕ, suc}
+use mathlib.Core.List.{List, [], _∷_}
 use mathlib.Core.Bool.{Bool, false, cond, not, _&&_, _||_}
-use lib.ListN.{length, take, replicate}
 use lib.Dec.{leb, eqb}
 use Rattle.intervals.specs.Intervals.{Interval, holds}
 use Rattle.item_check.specs.Checks.{Answer, answered, refused, Verdict, accepted, andThen, verdictOf}
 use Rattle.position_intervals.specs.Given.{intervalsOf, intervalsVerdict, provedVerdict}
 use Rattle.position_intervals.specs.Asked.{positionsOf}
-use Rattle.position_mismatch.specs.declared.PositionMismatch.{PositionMismatch}
+use Rattle.position_report.specs.declared.PositionMismatch.{PositionMismatch}
+use Rattle.position_report.specs.Reports.{reportOf}
 use Rattle.position_mismatch.specs.declared.Compared.{Compared}
 
 -- ---- positions
@@ -45,20 +45,6 @@ firstCrossing i e (a ∷ S) = cond (leb e (a .0) && leb (a .0) (a .1)) (firstCro
 
 abbrev pub spansVerdict : List ℕ → List Interval → Verdict
 spansVerdict ws spans = andThen (intervalsVerdict ws) (firstCrossing 0 0 spans)
-
--- ---- reports
-
--- 01 m6.10, form.4: at most `MAX_REPORTED_POSITIONS`, which belongs to the report and is 16
-abbrev pub mostReported : ℕ
-mostReported = 16
-
--- 01 m6.10: the exact total and the smallest offenders, of a list that has them in rising order; unused places are 0
-unfoldable pub reportOf : List ℕ → PositionMismatch
-reportOf offenders = record {
-  total = length offenders;
-  count = min mostReported (length offenders);
-  examples = take mostReported offenders ++ replicate (mostReported - length offenders) 0;
-}
 
 -- ---- answers (01 m6.10, refusal.6)
 

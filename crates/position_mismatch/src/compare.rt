@@ -5,19 +5,20 @@ ghost use Prim.Native.Nat.{_+_, min};
 ghost use Rattle.item_check.specs.Checks.{verdictOf, accepted};
 ghost use Rattle.position_intervals.specs.Given.{intervalsOf};
 ghost use Rattle.position_intervals.specs.Inner.{Sound, Ascends, lastWord};
-ghost use Rattle.position_mismatch.specs.Reports.{missing, extra, reportOf, comparedOf, reportIn, missingAnswer, extraAnswer};
+ghost use Rattle.position_mismatch.specs.Reports.{missing, extra, comparedOf, reportIn, missingAnswer, extraAnswer};
+ghost use Rattle.position_report.specs.Reports.{reportOf};
 use crate::Compared;
-use crate::PositionMismatch;
-use crate::gaps::Counted;
 use crate::gaps::Place;
 use crate::gaps::first_past;
 use crate::gaps::over_span;
-use crate::gaps::push_run;
 use crate::gaps::report_until;
 use crate::gaps::starts_by;
 use item_check::Checked;
 use position_intervals::LAST_WORD;
 use position_intervals::given::check_proved;
+use position_report::Counted;
+use position_report::PositionMismatch;
+use position_report::push_one;
 
 // Which covered positions are not proved (01 m6.10, change.4).
 pub fn missing_from(intervals: &[u64], proved: &[u64]) -> Compared
@@ -109,7 +110,7 @@ fn extra_positions(intervals: &[u64], proved: &[u64]) -> PositionMismatch
         i += 1;
         pair = first_past(intervals, pair, p);
         if !starts_by(intervals, pair, p) {
-            counted = push_run(&mut examples, counted.total, counted.count, p, 1);
+            counted = push_one(&mut examples, counted.total, counted.count, p);
         }
     }
     PositionMismatch {

@@ -1,24 +1,15 @@
 // A walk along intervals that reports what stands between proved positions. What a turn costs does not grow with a gap's width.
 ghost use mathlib.Core.Path.{_≡_};
 ghost use mathlib.Core.Bool.{_&&_};
-ghost use Prim.Native.Nat.{_+_, _-_, _/_, _≤_, min, max};
+ghost use Prim.Native.Nat.{_/_, max};
 ghost use lib.ListN.{length};
 ghost use lib.Dec.{leb, ltb};
-ghost use lib.Seq.{sets};
 ghost use Rattle.pairs_sort.specs.Pairs.{start};
-ghost use Rattle.position_intervals.specs.Asked.{countUp};
-ghost use Rattle.position_intervals.specs.Inner.{lastWord};
-ghost use Rattle.position_mismatch.specs.Reports.{mostReported};
-ghost use Rattle.position_mismatch.specs.Inner.{reportAt, reportWith, withRun, walkWith, reportUntil, pairsLeft, overSpan, FirstPast};
-use crate::PositionMismatch;
-use position_intervals::LAST_WORD;
+ghost use Rattle.position_mismatch.specs.Inner.{walkWith, reportUntil, pairsLeft, overSpan, FirstPast};
 use position_intervals::smaller;
-
-// A report but for its examples, which are lent beside it.
-pub(crate) struct Counted {
-    pub(crate) total: u64,
-    pub(crate) count: usize,
-}
+use position_report::Counted;
+use position_report::PositionMismatch;
+use position_report::push_run;
 
 // A walk but for its examples.
 pub(crate) struct Place {
@@ -66,13 +57,7 @@ pub(crate) fn report_until(
     while i < pairs {
         let s = larger(intervals[2 * i], from);
         let e = intervals[2 * i + 1];
-        counted = push_run(
-            examples,
-            counted.total,
-            counted.count,
-            s,
-            width(s, smaller(e, to)),
-        );
+        counted = push_run(examples, counted.total, counted.count, s, smaller(e, to));
         if to < e {
             return Place {
                 pair: i,
@@ -89,69 +74,6 @@ pub(crate) fn report_until(
         total: counted.total,
         count: counted.count,
     }
-}
-
-// Adds a run of positions: to the total, and to the examples while there are places.
-pub(crate) fn push_run(
-    examples: &mut [u64; PositionMismatch::MAX_REPORTED_POSITIONS],
-    total: u64,
-    count: usize,
-    from: u64,
-    width: u64,
-) -> Counted
-    requires { ⌜ from + width ≤ lastWord + 1 ⌝ }
-    ensures { λ r. ⌜ reportWith r (now (examples .exit)) ≡ withRun (reportAt total count (now (examples .entry))) from width ⌝ }
-{
-    if width == 0 {
-        return Counted { total, count };
-    }
-    let shown = show_run(examples, count, from, width);
-    Counted {
-        total: saturating_add(total, width),
-        count: count + shown as usize,
-    }
-}
-
-// Stores the first positions of a run after n examples, as many as there are places: how many these are.
-fn show_run(
-    examples: &mut [u64; PositionMismatch::MAX_REPORTED_POSITIONS],
-    n: usize,
-    from: u64,
-    width: u64,
-) -> u64
-    requires { ⌜ from + width ≤ lastWord + 1 ⌝ }
-    ensures { λ r. ⌜ r ≡ min (mostReported - n) width ⌝ }
-    ensures { λ r. ⌜ now (examples .exit) ≡ sets (now (examples .entry)) n (countUp from (min (mostReported - n) width)) ⌝ }
-{
-    if n >= PositionMismatch::MAX_REPORTED_POSITIONS {
-        return 0;
-    }
-    let shown = smaller((PositionMismatch::MAX_REPORTED_POSITIONS - n) as u64, width);
-    let mut k: u64 = 0;
-    while k < shown {
-        examples[n + k as usize] = from + k;
-        k += 1;
-    }
-    shown
-}
-
-fn saturating_add(x: u64, y: u64) -> u64
-    ensures { λ r. ⌜ r ≡ min (x + y) lastWord ⌝ }
-{
-    if LAST_WORD - x < y {
-        return LAST_WORD;
-    }
-    x + y
-}
-
-// How many positions stand from s on, below e.
-fn width(s: u64, e: u64) -> u64
-    ensures { λ r. ⌜ r ≡ e - s ⌝ }
-{
-    if s < e {
-        return e - s;
-    }
-    0
 }
 
 fn larger(x: u64, y: u64) -> u64

@@ -1,22 +1,15 @@
 // Module 6 of document 01: how the positions that intervals cover compare with those that a proof carries: which are missing and which are
-// extra, reported by their total and the smallest of them. Nothing here grows with the width of a gap.
-// Definitions: specs/Reports.antt (missing, extra, the check of spans, the reports, the answers), specs/Inner.antt (what inner and private
-// functions promise). Laws: proofs/Laws.antt; among them covered = present + missing, and proved = present + extra.
+// extra, reported by their total and the smallest of them (`position_report`). Nothing here grows with the width of a gap.
+// Definitions: specs/Reports.antt (missing, extra, the check of spans, the answers), specs/Inner.antt (what inner and private functions
+// promise). Laws: proofs/Laws.antt; among them covered = present + missing, and proved = present + extra.
 //
 // A function marked "inner" is public only because other crates need it. It checks nothing: its definition covers every input.
 pub mod compare;
 mod gaps;
-pub mod mismatch;
 pub mod spans;
 
 use item_check::Checked;
-
-// How many positions are off, and the smallest of them: the first count places of examples. Unused places are 0.
-pub struct PositionMismatch {
-    pub total: u64,
-    pub count: usize,
-    pub examples: [u64; PositionMismatch::MAX_REPORTED_POSITIONS],
-}
+use position_report::PositionMismatch;
 
 // What `missing_from`, `missing_from_spans` and `extra_in` answer. Where the call is refused the report is the empty one. (An enum cannot
 // hold the report's array.)

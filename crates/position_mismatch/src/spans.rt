@@ -5,7 +5,6 @@ ghost use Prim.Native.Nat.{_+_, min};
 ghost use Rattle.position_intervals.specs.Inner.{lastWord};
 ghost use Rattle.position_mismatch.specs.Inner.{startOf, stepOn, stepOf, finishOf};
 use crate::Compared;
-use crate::PositionMismatch;
 use crate::SpanWalk;
 use crate::Walk;
 use crate::compare::without_report;
@@ -16,6 +15,7 @@ use item_check::Checked;
 use item_check::Refusal;
 use position_intervals::LAST_WORD;
 use position_intervals::given::check_intervals;
+use position_report::PositionMismatch;
 
 // inner: before the first span: the intervals are checked.
 pub fn start(intervals: &[u64]) -> SpanWalk

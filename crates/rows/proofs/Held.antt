@@ -18,7 +18,8 @@ use Rattle.position_intervals.specs.Given.{firstTouching, canonicalVerdict, fir
 use Rattle.position_intervals.specs.Asked.{countUp, positionsOf}
 use Rattle.position_key.specs.Keys.{beBytes}
 use Rattle.position_query.specs.Covered.{holdsPosition, someHolds, covered, firstFault}
-use Rattle.position_mismatch.specs.Reports.{isIn, keep, missing, reportOf}
+use Rattle.position_report.specs.Reports.{reportOf}
+use Rattle.position_mismatch.specs.Reports.{isIn, keep, missing}
 use Rattle.rows.specs.Rows.{Result, Row, rows}
 
 pub rows-hold : map {B = Result} (λ (r : Row). r .0) rows ≡ map (λ (r : Row). r .1) rows

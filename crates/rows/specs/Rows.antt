@@ -28,7 +28,7 @@ use Rattle.position_intervals.specs.Asked.{countUp, containsAnswer}
 use Rattle.position_intervals.specs.Inner.{lastWord}
 use Rattle.position_key.specs.Keys.{keySize}
 use Rattle.position_query.specs.Covered.{covered, queryVerdict}
-use Rattle.position_mismatch.specs.declared.PositionMismatch.{PositionMismatch}
+use Rattle.position_report.specs.declared.PositionMismatch.{PositionMismatch}
 use Rattle.position_mismatch.specs.Reports.{keep, missingAnswer}
 
 -- what a row gives: orders; the pair's shared part, our two leftovers and their two; the three lists; positions; yes or no; a report; the

@@ -5,7 +5,7 @@ use native.Mathlib.Omega.{arith}
 use lib.ListN.{length}
 use denote.Ref.{now}
 use borrow.Author.Tests.{lt-ltb, le-ltb}
-use Rattle.position_mismatch.specs.Reports.{mostReported}
+use Rattle.position_report.specs.Reports.{mostReported}
 use Rattle.position_describe.specs.Text.{textOf}
 use Rattle.lent_text.proofs.Laws.{stored-never, stored-whole}
 use borrow.Author.Needs.{needs}

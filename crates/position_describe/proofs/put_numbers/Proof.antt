@@ -5,7 +5,7 @@ use mathlib.Core.Path.{_≡_, refl, sym, _∙_}
 use native.Mathlib.Omega.{arith}
 use lib.ListN.{length, getD}
 use denote.Ref.{now}
-use Rattle.position_mismatch.specs.Reports.{mostReported}
+use Rattle.position_report.specs.Reports.{mostReported}
 use Rattle.lent_text.specs.Text.{stored}
 use Rattle.lent_text.proofs.Laws.{decimal-few, stored-none}
 use Rattle.position_describe.proofs.Laws.{numbers-none, leftOf, left-turn, left-whole}

@@ -45,8 +45,8 @@ use denote.Triple.Walked.{Stays, stay-dropped, stay-none-slice, walkOf, goes-dro
 use denote.Exit.{yes}
 use denote.Triple.Clauses.{ensured, lasts}
 use Rattle.item_check.specs.Checks.{Answer}
+use Rattle.position_report.specs.declared.PositionMismatch.{PositionMismatch}
 use Rattle.position_mismatch.specs.declared.Compared.{Compared}
-use Rattle.position_mismatch.specs.declared.PositionMismatch.{PositionMismatch}
 use Rattle.position_mismatch.specs.Reports.{comparedOf, reportIn, spansAnswer}
 use Rattle.position_mismatch.proofs.Laws.{Gives}
 use Rattle.position_mismatch.proofs.Compared as R

@@ -48,9 +48,9 @@ use denote.Triple.Walked.{says, Stays, stay-none-slice, walkOf, goes-none-slice,
 use denote.Exit.{yes}
 use denote.Triple.Clauses.{ensured, lasts}
 use Rattle.position_intervals.proofs.Widths.{Words}
+use Rattle.position_report.specs.declared.PositionMismatch.{PositionMismatch}
 use Rattle.position_mismatch.specs.declared.SpanWalk.{SpanWalk}
 use Rattle.position_mismatch.specs.declared.Compared.{Compared}
-use Rattle.position_mismatch.specs.declared.PositionMismatch.{PositionMismatch}
 use Rattle.item_check.specs.Checks.{Answer}
 use Rattle.position_mismatch.specs.Reports.{spansAnswer}
 use Rattle.position_mismatch.specs.Inner.{startOf, stepOf, finishOf}

@@ -39,9 +39,10 @@ use denote.Triple.Walked.{says, Stays, stay-none-slice, gave-ref, walkOf, goes-n
 use denote.Triple.Clauses.{ensured, lasts}
 use denote.Exit.{yes}
 use Rattle.item_check.specs.Checks.{Answer}
+use Rattle.position_report.specs.declared.PositionMismatch.{PositionMismatch}
+use Rattle.position_report.specs.Reports.{mostReported}
 use Rattle.position_mismatch.specs.declared.Compared.{Compared}
-use Rattle.position_mismatch.specs.declared.PositionMismatch.{PositionMismatch}
-use Rattle.position_mismatch.specs.Reports.{mostReported, comparedOf, reportIn, spansAnswer}
+use Rattle.position_mismatch.specs.Reports.{comparedOf, reportIn, spansAnswer}
 use Rattle.position_mismatch.proofs.Laws.{Gives}
 use Rattle.position_mismatch.proofs.Compared as K
 use Rattle.position_mismatch.proofs.Compared.Laws as K′

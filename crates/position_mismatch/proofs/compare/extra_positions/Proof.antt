@@ -5,8 +5,8 @@ use native.Mathlib.Omega.{arith}
 use lib.ListN.{length}
 use denote.Ref.{now}
 use borrow.Author.Tests.{not-true, not-false}
-use Rattle.position_mismatch.specs.Reports.{reportOf}
-use Rattle.position_mismatch.specs.Inner.{reportWith}
+use Rattle.position_report.specs.Reports.{reportOf}
+use Rattle.position_report.specs.Inner.{reportWith}
 use Rattle.position_mismatch.proofs.Turns.{Sorted, sorted-start, sorted-held, sorted-extra, sorted-end}
 use borrow.Author.Needs.{needs}
 use Rattle.position_mismatch.proofs.compare.extra_positions.Statement.{statement}
@@ -24,14 +24,11 @@ loop-holds c =
     let s = c .before .before in
     sorted-start (now (s .args .intervals)) (now (s .args .proved)) (s .pre .0) (s .pre .1)
 
-push-run-requires : tie.Need-push-run-requires Inv-loop μ-loop
-push-run-requires c κs = omega (arith, c .before .before .before .before .shared-slice-known3 .given (c .before .before .before .before .before .before .loop .i))
-
 loop-again : tie.Need-loop-again Inv-loop μ-loop
 loop-again c =
     let s = c .before .before .before .before .before .before .before .before .before .before in
     let l = c .before .before .before .before .before .before .before .loop in
-    sorted-extra (now (s .args .intervals)) (now (s .args .proved)) (s .pre .0) (reportWith (l .counted) (l .examples)) (l .pair) (l .i) (c .before .before .before .before .first-past .result) (c .before .before .before .starts-by .result) (l .inv) (c .before .before .before .before .before .before .loop-test .taken) (c .before .before .before .before .first-past .ensures) (c .before .before .before .starts-by .ensures) (reportWith (c .push-run .result) (c .push-run .last .0)) (not-true _ (c .before .before .if1 .taken)) (omega arith) (c .push-run .ensures)
+    sorted-extra (now (s .args .intervals)) (now (s .args .proved)) (s .pre .0) (reportWith (l .counted) (l .examples)) (l .pair) (l .i) (c .before .before .before .before .first-past .result) (c .before .before .before .starts-by .result) (l .inv) (c .before .before .before .before .before .before .loop-test .taken) (c .before .before .before .before .first-past .ensures) (c .before .before .before .starts-by .ensures) (reportWith (c .push-one .result) (c .push-one .last .0)) (not-true _ (c .before .before .if1 .taken)) (omega arith) (c .push-one .ensures)
 
 loop-again-2 : tie.Need-loop-again-2 Inv-loop μ-loop
 loop-again-2 c =
@@ -57,7 +54,7 @@ extra-positions-spec =
     (λ c. search needs)
     (λ c κs. search needs)
     (λ c κs. search needs)
-    push-run-requires
+    (λ c κs. search needs)
     (λ c. search needs)
     loop-again
     (λ c. search needs)

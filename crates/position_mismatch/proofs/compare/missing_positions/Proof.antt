@@ -5,9 +5,9 @@ use mathlib.Core.Path.{sym, ap, subst, _∙_}
 use native.Mathlib.Omega.{arith}
 use lib.ListN.{length}
 use denote.Ref.{now}
+use Rattle.position_report.specs.declared.PositionMismatch.{PositionMismatch}
+use Rattle.position_report.specs.Reports.{reportOf}
 use Rattle.position_mismatch.specs.declared.Walk.{Walk}
-use Rattle.position_mismatch.specs.declared.PositionMismatch.{PositionMismatch}
-use Rattle.position_mismatch.specs.Reports.{reportOf}
 use Rattle.position_mismatch.specs.Inner.{walkWith}
 use Rattle.position_mismatch.proofs.Turns.{Seen, seen-start, seen-more, seen-end}
 use borrow.Author.Needs.{needs}

@@ -6,7 +6,7 @@ use native.Mathlib.Omega.{arith}
 use lib.ListN.{length}
 use denote.Ref.{now}
 use Rattle.pairs_sort.specs.Pairs.{finish}
-use Rattle.position_mismatch.proofs.Runs.{passed-more}
+use Rattle.position_mismatch.proofs.Turns.{passed-more}
 use borrow.Author.Needs.{needs}
 use Rattle.position_mismatch.proofs.gaps.first_past.Statement.{statement}
 use Rattle.position_mismatch.proofs.gaps.first_past.Tie as tie

@@ -4,7 +4,8 @@ use mathlib.Core.Path.{_≡_, refl, sym, _∙_}
 use lib.ListN.{length}
 use denote.Ref.{now}
 use Rattle.pairs_sort.specs.Pairs.{pairsFrom}
-use Rattle.position_mismatch.specs.Inner.{reportWith, reportUntil, walkAt}
+use Rattle.position_report.specs.Inner.{reportWith}
+use Rattle.position_mismatch.specs.Inner.{reportUntil, walkAt}
 use Rattle.position_mismatch.proofs.Walks.{until-end, until-stop, until-next}
 use borrow.Author.Needs.{needs}
 use Rattle.position_mismatch.proofs.gaps.report_until.Statement.{statement}
@@ -22,27 +23,24 @@ abbrev μ-loop : tie.MeasureT-loop
 loop-holds : tie.Need-loop-holds Inv-loop μ-loop
 loop-holds c = (search needs, refl)
 
-push-run-requires : tie.Need-push-run-requires Inv-loop μ-loop
-push-run-requires c κs = search needs
-
 returns : tie.Need-returns Inv-loop μ-loop
 returns c =
-    let l = c .before .before .before .before .before .before .before .before .before .loop in
-    let a = c .before .before .before .before .before .before .before .before .before .before .before .args in
+    let l = c .before .before .before .before .before .before .before .before .loop in
+    let a = c .before .before .before .before .before .before .before .before .before .before .args in
     sym (l .inv .1 ∙ until-stop (now (a .intervals)) (length (now (a .intervals)) / 2) (l .i) (a .place .from) (a .to) (reportWith (l .counted) (l .examples))
-    (c .before .before .before .before .before .before .larger .result) (c .before .before .before .smaller .result) (c .before .before .width .result) (reportWith (c .before .push-run .result) (c .before .push-run .last .0))
-    (c .before .before .before .before .before .before .larger .ensures) (c .before .before .before .smaller .ensures) (c .before .before .width .ensures) (c .before .push-run .ensures)
-    (c .before .before .before .before .before .before .before .before .loop-test .taken) (c .if1 .taken))
+    (c .before .before .before .before .before .larger .result) (c .before .before .smaller .result) (reportWith (c .before .push-run .result) (c .before .push-run .last .0))
+    (c .before .before .before .before .before .larger .ensures) (c .before .before .smaller .ensures) (c .before .push-run .ensures)
+    (c .before .before .before .before .before .before .before .loop-test .taken) (c .if1 .taken))
 
 loop-again : tie.Need-loop-again Inv-loop μ-loop
 loop-again c =
-    let l = c .before .before .before .before .before .before .before .before .before .loop in
-    let a = c .before .before .before .before .before .before .before .before .before .before .before .args in (
+    let l = c .before .before .before .before .before .before .before .before .loop in
+    let a = c .before .before .before .before .before .before .before .before .before .before .args in (
       search needs,
       l .inv .1 ∙ until-next (now (a .intervals)) (length (now (a .intervals)) / 2) (l .i) (a .place .from) (a .to) (reportWith (l .counted) (l .examples))
-          (c .before .before .before .before .before .before .larger .result) (c .before .before .before .smaller .result) (c .before .before .width .result) (reportWith (c .before .push-run .result) (c .before .push-run .last .0))
-          (c .before .before .before .before .before .before .larger .ensures) (c .before .before .before .smaller .ensures) (c .before .before .width .ensures) (c .before .push-run .ensures)
-          (c .before .before .before .before .before .before .before .before .loop-test .taken) (c .if1 .left),
+          (c .before .before .before .before .before .larger .result) (c .before .before .smaller .result) (reportWith (c .before .push-run .result) (c .before .push-run .last .0))
+          (c .before .before .before .before .before .larger .ensures) (c .before .before .smaller .ensures) (c .before .push-run .ensures)
+          (c .before .before .before .before .before .before .before .loop-test .taken) (c .if1 .left),
     )
 
 returns-2 : tie.Need-returns-2 Inv-loop μ-loop
@@ -63,7 +61,6 @@ report-until-spec =
     (λ c. search needs)
     (λ c. search needs)
     (λ c. search needs)
-    (λ c κs. search needs)
     (λ c κs. search needs)
     (λ c κs. search needs)
     returns

@@ -1,8 +1,8 @@
 -- `PositionMismatch::empty` meets its contract, by computation. Assumes nothing.
 use mathlib.Core.Path.{refl}
-use Rattle.position_mismatch.specs.Reports.{reportOf}
-use Rattle.position_mismatch.proofs.PositionMismatch.empty.Statement.{statement}
-use Rattle.position_mismatch.proofs.PositionMismatch.empty.Tie as tie
+use Rattle.position_report.specs.Reports.{reportOf}
+use Rattle.position_report.proofs.PositionMismatch.empty.Statement.{statement}
+use Rattle.position_report.proofs.PositionMismatch.empty.Tie as tie
 
 returns : tie.Need-returns
 unfolding reportOf

@@ -6,13 +6,12 @@ use native.Mathlib.Decide.{decLt}
 use native.Mathlib.Omega.{arith}
 use lib.ListN.{length, take, drop, replicate, set, length-append, length-replicate, drop-of-length-le}
 use lib.Seq.{sets, sets-eq, take-all, take-append-le, take-append-add, take-append-seam, drop-append-add, take-nil}
-use Rattle.pairs_sort.specs.Pairs.{finish}
 use Rattle.position_intervals.specs.Asked.{countUp}
 use Rattle.position_intervals.specs.Inner.{lastWord}
 use Rattle.position_intervals.proofs.Widths.{length-count}
-use Rattle.position_mismatch.specs.declared.PositionMismatch.{PositionMismatch}
-use Rattle.position_mismatch.specs.Reports.{mostReported, reportOf}
-use Rattle.position_mismatch.specs.Inner.{withRun}
+use Rattle.position_report.specs.declared.PositionMismatch.{PositionMismatch}
+use Rattle.position_report.specs.Reports.{mostReported, reportOf}
+use Rattle.position_report.specs.Inner.{withRun}
 
 -- ---- a run that is not stored
 
@@ -114,12 +113,3 @@ module _ (l : List ℕ) (from width : ℕ) where
       let e : sets (shownOf l) (min mostReported (length l)) (countUp from places) ≡ shownOf (l ++ countUp from width) =
       elim (decLt (length l) mostReported) [ yes k ↦ partly k | no k ↦ full (omega arith) ] in
       λ i. record { total = t i; count = c i; examples = e i }
-
--- ---- pairs that are passed
-
-pub passed-more : (ws : List ℕ) (from i p : ℕ) → ((k : ℕ) → from ≤ k → k < i → finish ws k ≤ p) → finish ws i ≤ p
-    → (k : ℕ) → from ≤ k → k < i + 1 → finish ws k ≤ p
-passed-more ws from i p h l k a b = elim (decLt k i) [
-  | yes u ↦ h k a u
-  | no u ↦ let q : k ≡ i = omega arith in rw q l
-]

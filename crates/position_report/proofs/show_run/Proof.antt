@@ -5,10 +5,10 @@ use mathlib.Core.Path.{_≡_, sym, _∙_}
 use native.Mathlib.Omega.{arith}
 use lib.Seq.{sets}
 use Rattle.position_intervals.specs.Asked.{countUp}
-use Rattle.position_mismatch.specs.Reports.{mostReported}
-use Rattle.position_mismatch.proofs.Runs.{run-none, run-start, run-more, run-end}
-use Rattle.position_mismatch.proofs.gaps.show_run.Statement.{statement}
-use Rattle.position_mismatch.proofs.gaps.show_run.Tie as tie
+use Rattle.position_report.specs.Reports.{mostReported}
+use Rattle.position_report.proofs.Runs.{run-none, run-start, run-more, run-end}
+use Rattle.position_report.proofs.show_run.Statement.{statement}
+use Rattle.position_report.proofs.show_run.Tie as tie
 
 abbrev Inv-loop : tie.InvT-loop
 Inv-loop examples₀ n from width shown k₀ examples k =

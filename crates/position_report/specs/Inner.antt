@@ -1,0 +1,25 @@
+-- What private and inner functions promise: reports that grow. No public call is promised by these. Definitions only.
+-- It serves 01 m6.10, m6.11. Assumes nothing.
+use Prim.Native.Nat.{ℕ, _+_, _-_, min}
+use mathlib.Core.List.{List}
+use lib.Seq.{sets}
+use Rattle.position_intervals.specs.Asked.{countUp}
+use Rattle.position_intervals.specs.Inner.{lastWord}
+use Rattle.position_report.specs.declared.PositionMismatch.{PositionMismatch}
+use Rattle.position_report.specs.declared.Counted.{Counted}
+use Rattle.position_report.specs.Reports.{mostReported}
+
+abbrev pub reportAt : ℕ → ℕ → List ℕ → PositionMismatch
+reportAt n k l = record { total = n; count = k; examples = l }
+
+-- a report whose examples are lent
+abbrev pub reportWith : Counted → List ℕ → PositionMismatch
+reportWith c examples = reportAt (c .total) (c .count) examples
+
+-- a report with a run of positions added, width of them from `from` on: as many examples as there are places
+unfoldable pub withRun : PositionMismatch → ℕ → ℕ → PositionMismatch
+withRun r from width = record {
+  total = min (r .total + width) lastWord;
+  count = r .count + min (mostReported - r .count) width;
+  examples = sets (r .examples) (r .count) (countUp from (min (mostReported - r .count) width));
+}
