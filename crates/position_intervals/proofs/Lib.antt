@@ -1,4 +1,2 @@
 pub mod Laws
-pub mod Accepted
 pub mod Halves
-pub mod Widths

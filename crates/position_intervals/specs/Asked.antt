@@ -1,28 +1,17 @@
--- The positions of intervals, one by one, and the answers of the calls that ask of them. Definitions only. Assumes nothing.
-use Prim.Native.Nat.{ℕ, zero, suc, _-_}
-use mathlib.Core.List.{List, [], _∷_, _++_}
+-- The answers of the calls that ask of intervals. Definitions only. Assumes nothing.
+use Prim.Native.Nat.{ℕ}
+use mathlib.Core.List.{List}
 use mathlib.Core.Bool.{Bool}
 use lib.ListN.{length}
 use lib.Dec.{eqb}
-use Rattle.intervals.specs.Intervals.{Interval, holds}
+use Rattle.intervals.specs.Intervals.{holds}
 use Rattle.item_check.specs.Checks.{Answer, answered, andThen, refusedAs}
+use Rattle.position_given.specs.Given.{intervalsOf, intervalsVerdict}
+use Rattle.position_given.specs.Positions.{positionsOf}
 use Rattle.position_intervals.specs.declared.YesOrNo.{YesOrNo}
 use Rattle.position_intervals.specs.declared.YesOrNo.the-variants as yesOrNo
 use Rattle.position_intervals.specs.declared.Length.{Length}
 use Rattle.position_intervals.specs.declared.Length.the-variants as size
-use Rattle.position_intervals.specs.Given.{intervalsOf, intervalsVerdict}
-
--- ---- positions
-
--- 01 m6.4: k numbers from s on
-unfoldable pub countUp : ℕ → ℕ → List ℕ
-countUp s zero = []
-countUp s (suc k) = s ∷ countUp (suc s) k
-
--- 01 m6.4: half-open: the positions of each interval, from its start on, below its end
-unfoldable pub positionsOf : List Interval → List ℕ
-positionsOf [] = []
-positionsOf (a ∷ A) = countUp (a .0) (a .1 - a .0) ++ positionsOf A
 
 -- ---- answers (01 m6.8)
 

@@ -2,15 +2,16 @@
 ghost use mathlib.Core.Path.{_≡_};
 ghost use lib.ListN.{length};
 ghost use Rattle.intervals.specs.Intervals.{holds};
-ghost use Rattle.position_intervals.specs.Given.{intervalsOf};
-ghost use Rattle.position_intervals.specs.Asked.{positionsOf, yesOrNoOf, lengthOf, containsAnswer, lenAnswer, isEmptyAnswer};
-ghost use Rattle.position_intervals.specs.Inner.{Sound};
+ghost use Rattle.position_given.specs.Given.{intervalsOf};
+ghost use Rattle.position_given.specs.Inner.{Sound};
+ghost use Rattle.position_given.specs.Positions.{positionsOf};
+ghost use Rattle.position_intervals.specs.Asked.{yesOrNoOf, lengthOf, containsAnswer, lenAnswer, isEmptyAnswer};
 use crate::Length;
-use crate::LogPosition;
-use crate::RowCount;
 use crate::YesOrNo;
-use crate::given::check_intervals;
 use item_check::Checked;
+use position_given::LogPosition;
+use position_given::RowCount;
+use position_given::check_intervals;
 
 // Whether a position lies in one of the intervals (01 m6.3, m6.8, form.2, form.3).
 pub fn contains(intervals: &[u64], position: LogPosition) -> YesOrNo

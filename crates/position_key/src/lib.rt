@@ -3,7 +3,7 @@
 ghost use mathlib.Core.Path.{_≡_};
 ghost use Prim.Native.Nat.{_<_};
 ghost use Rattle.position_key.specs.Keys.{positionOf, positionAnswer};
-use position_intervals::LogPosition;
+use position_given::LogPosition;
 
 // What `be_u64` answers: the position, or refusal 7.
 pub enum PositionKey {

@@ -12,8 +12,8 @@ use Rattle.item_check.specs.declared.Checked.{Checked}
 use Rattle.item_check.specs.declared.Checked.the-variants as checked
 use Rattle.item_check.specs.Checks.{answered, verdictOf, andThen}
 use Rattle.item_check.proofs.Laws.{refused-apart}
-use Rattle.position_intervals.specs.Asked.{positionsOf}
-use Rattle.position_intervals.specs.Inner.{Ascends}
+use Rattle.position_given.specs.Positions.{positionsOf}
+use Rattle.position_given.specs.Inner.{Ascends}
 use Rattle.position_mismatch.specs.declared.Compared.{Compared}
 use Rattle.position_mismatch.specs.Reports.{isIn, keep, missing, extra, present, comparedOf}
 use Rattle.position_mismatch.proofs.Positions.{in-keep, in-positions, ascends-keep, ascends-positions, ascends-unique, keep-parts}

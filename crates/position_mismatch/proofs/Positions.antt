@@ -10,8 +10,8 @@ use lib.ListN.{length}
 use borrow.Author.Tests.{eq-eqb, ne-eqb}
 use Rattle.intervals.specs.Intervals.{Interval, Above, inside, holds}
 use Rattle.intervals.proofs.Members.{where-is, below, in-it, past, inside-below, inside-yes, inside-past}
-use Rattle.position_intervals.specs.Asked.{countUp, positionsOf}
-use Rattle.position_intervals.specs.Inner.{Ascends}
+use Rattle.position_given.specs.Positions.{countUp, positionsOf}
+use Rattle.position_given.specs.Inner.{Ascends}
 use Rattle.position_mismatch.specs.Reports.{isIn, keep}
 
 -- ---- members

@@ -13,11 +13,11 @@ use Rattle.intervals.proofs.Laws.{holds-append}
 use Rattle.item_check.specs.declared.Checked.{Checked}
 use Rattle.item_check.specs.declared.Checked.the-variants.{Accepted, Refused}
 use Rattle.item_check.specs.Checks.{Answer, answered, refused, Verdict, andThen, verdictOf}
-use Rattle.position_intervals.specs.Given.{intervalsOf, intervalsVerdict}
-use Rattle.position_intervals.specs.Asked.{positionsOf}
-use Rattle.position_intervals.specs.Inner.{Sound, lastWord}
-use Rattle.position_intervals.proofs.Accepted.{sound}
-use Rattle.position_intervals.proofs.Widths.{Words, Ends}
+use Rattle.position_given.specs.Given.{intervalsOf, intervalsVerdict}
+use Rattle.position_given.specs.Positions.{positionsOf}
+use Rattle.position_given.specs.Inner.{Sound, lastWord}
+use Rattle.position_given.proofs.Accepted.{sound}
+use Rattle.position_given.proofs.Widths.{Words, Ends}
 use Rattle.position_report.specs.declared.PositionMismatch.{PositionMismatch}
 use Rattle.position_report.specs.Reports.{reportOf}
 use Rattle.position_mismatch.specs.declared.SpanWalk.{SpanWalk}

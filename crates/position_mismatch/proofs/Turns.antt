@@ -16,11 +16,11 @@ use Rattle.intervals.proofs.Members.{inside-below, inside-yes, inside-past}
 use Rattle.intervals.proofs.Laws.{holds-append}
 use Rattle.pairs_sort.specs.Pairs.{start, finish, pairsFrom, pairs}
 use Rattle.pairs_sort.proofs.Laws.{pairs-append, pairs-more}
-use Rattle.position_intervals.specs.Given.{intervalsOf}
-use Rattle.position_intervals.specs.Asked.{countUp}
-use Rattle.position_intervals.specs.Inner.{Sound, Ascends, lastWord}
-use Rattle.position_intervals.proofs.Halves.{apart-below, apart-back}
-use Rattle.position_intervals.proofs.Widths.{Words}
+use Rattle.position_given.specs.Given.{intervalsOf}
+use Rattle.position_given.specs.Positions.{countUp}
+use Rattle.position_given.specs.Inner.{Sound, Ascends, lastWord}
+use Rattle.position_given.proofs.Apart.{apart-below, apart-back}
+use Rattle.position_given.proofs.Widths.{Words}
 use Rattle.position_report.specs.declared.PositionMismatch.{PositionMismatch}
 use Rattle.position_report.specs.Reports.{reportOf}
 use Rattle.position_report.specs.Inner.{withRun}

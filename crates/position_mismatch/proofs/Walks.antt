@@ -14,11 +14,11 @@ use Rattle.intervals.proofs.Members.{where-is, below, in-it, past, inside-below
 use Rattle.intervals.proofs.Laws.{canonical→strict, holds-append}
 use Rattle.pairs_sort.specs.Pairs.{start, finish, pairsFrom, pairs}
 use Rattle.pairs_sort.proofs.Laws.{pairs-more, pairs-end, pairs-snoc, pairs-append}
-use Rattle.position_intervals.specs.Given.{intervalsOf}
-use Rattle.position_intervals.specs.Asked.{countUp, positionsOf}
-use Rattle.position_intervals.specs.Inner.{Sound, Ascends, lastWord}
-use Rattle.position_intervals.proofs.Halves.{apart-below, apart-back}
-use Rattle.position_intervals.proofs.Widths.{Words, length-count, ends-of, ends-held}
+use Rattle.position_given.specs.Given.{intervalsOf}
+use Rattle.position_given.specs.Positions.{countUp, positionsOf}
+use Rattle.position_given.specs.Inner.{Sound, Ascends, lastWord}
+use Rattle.position_given.proofs.Apart.{apart-below, apart-back}
+use Rattle.position_given.proofs.Widths.{Words, length-count, ends-of, ends-held}
 use Rattle.position_report.specs.declared.PositionMismatch.{PositionMismatch}
 use Rattle.position_report.specs.Reports.{reportOf}
 use Rattle.position_report.specs.Inner.{withRun}

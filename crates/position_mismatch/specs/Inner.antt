@@ -10,8 +10,8 @@ use Rattle.item_check.specs.declared.Checked.{Checked}
 use Rattle.item_check.specs.declared.Checked.the-variants.{Accepted, Refused}
 use Rattle.item_check.specs.Checks.{answered, refused, Verdict}
 use Rattle.pairs_sort.specs.Pairs.{finish, pairsFrom}
-use Rattle.position_intervals.specs.Given.{intervalsVerdict}
-use Rattle.position_intervals.specs.Inner.{lastWord}
+use Rattle.position_given.specs.Given.{intervalsVerdict}
+use Rattle.position_given.specs.Inner.{lastWord}
 use Rattle.position_report.specs.declared.PositionMismatch.{PositionMismatch}
 use Rattle.position_report.specs.Reports.{reportOf}
 use Rattle.position_report.specs.Inner.{reportAt, withRun}

@@ -6,8 +6,8 @@ use mathlib.Core.Bool.{Bool, false, cond, not, _&&_, _||_}
 use lib.Dec.{leb, eqb}
 use Rattle.intervals.specs.Intervals.{Interval, holds}
 use Rattle.item_check.specs.Checks.{Answer, answered, refused, Verdict, accepted, andThen, verdictOf}
-use Rattle.position_intervals.specs.Given.{intervalsOf, intervalsVerdict, provedVerdict}
-use Rattle.position_intervals.specs.Asked.{positionsOf}
+use Rattle.position_given.specs.Given.{intervalsOf, intervalsVerdict, provedVerdict}
+use Rattle.position_given.specs.Positions.{positionsOf}
 use Rattle.position_report.specs.declared.PositionMismatch.{PositionMismatch}
 use Rattle.position_report.specs.Reports.{reportOf}
 use Rattle.position_mismatch.specs.declared.Compared.{Compared}

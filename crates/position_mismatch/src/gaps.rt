@@ -6,7 +6,7 @@ ghost use lib.ListN.{length};
 ghost use lib.Dec.{leb, ltb};
 ghost use Rattle.pairs_sort.specs.Pairs.{start};
 ghost use Rattle.position_mismatch.specs.Inner.{walkWith, reportUntil, pairsLeft, overSpan, FirstPast};
-use position_intervals::smaller;
+use position_given::smaller;
 use position_report::Counted;
 use position_report::PositionMismatch;
 use position_report::push_run;

@@ -2,7 +2,7 @@
 // `finish` give what `missing_from` gives on the positions that the spans contain: `spans-answer` in proofs/Laws.antt.
 ghost use mathlib.Core.Path.{_≡_};
 ghost use Prim.Native.Nat.{_+_, min};
-ghost use Rattle.position_intervals.specs.Inner.{lastWord};
+ghost use Rattle.position_given.specs.Inner.{lastWord};
 ghost use Rattle.position_mismatch.specs.Inner.{startOf, stepOn, stepOf, finishOf};
 use crate::Compared;
 use crate::SpanWalk;
@@ -13,8 +13,8 @@ use crate::gaps::over_span;
 use crate::gaps::report_until;
 use item_check::Checked;
 use item_check::Refusal;
-use position_intervals::LAST_WORD;
-use position_intervals::given::check_intervals;
+use position_given::LAST_WORD;
+use position_given::check_intervals;
 use position_report::PositionMismatch;
 
 // inner: before the first span: the intervals are checked.

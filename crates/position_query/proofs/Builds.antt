@@ -17,7 +17,7 @@ use Rattle.item_check.proofs.Laws.{accepts, fault-refused, items-end, items-mor
 use Rattle.pairs_sort.specs.Pairs.{pairsFrom, pairs, put, pushes, Merged}
 use Rattle.pairs_sort.proofs.Laws.{pairs-length, push-length, push-pairs, push-kept}
 use Rattle.position_query.specs.Covered.{positionFault, firstFault, queryVerdict, FromQueryItems}
-use Rattle.position_intervals.specs.Inner.{lastWord}
+use Rattle.position_given.specs.Inner.{lastWord}
 use Rattle.position_query.specs.Inner.{clipped, ranges, Wrote, Building}
 use Rattle.key_order.proofs.Words.{Bytes}
 use Rattle.position_query.proofs.Ranges.{ranges-covered, ranges-needed}

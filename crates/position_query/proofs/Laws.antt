@@ -16,7 +16,7 @@ use Rattle.item_check.specs.Checks.{Answer, answered, refused, itemsOf}
 use Rattle.item_check.proofs.Laws.{refused-apart}
 use Rattle.pairs_sort.specs.Pairs.{start, finish, pairsFrom, pairs}
 use Rattle.pairs_sort.proofs.Laws.{pairs-length}
-use Rattle.position_intervals.specs.Inner.{lastWord}
+use Rattle.position_given.specs.Inner.{lastWord}
 use Rattle.position_query.specs.declared.Built.{Built}
 use Rattle.position_query.specs.declared.Built.the-variants as built
 use Rattle.position_query.specs.Covered.{covered, rangesNeeded, builtOf, Covers, FromQueryItems}

@@ -13,7 +13,7 @@ use Rattle.query_item.specs.Items.{bytesOf}
 use Rattle.query_item.specs.Boundaries.{rangeOf}
 use Rattle.item_check.specs.Checks.{Answer, answered, refused, itemsOf}
 use Rattle.pairs_sort.specs.Pairs.{pairs}
-use Rattle.position_intervals.specs.Inner.{lastWord}
+use Rattle.position_given.specs.Inner.{lastWord}
 use Rattle.position_query.specs.declared.query.ItemRange.{ItemRange}
 use Rattle.position_query.specs.declared.query.ItemRange.the-variants.{Range, BadKey}
 use Rattle.position_query.specs.declared.query.PositionRange.{PositionRange}

@@ -6,9 +6,9 @@ use native.Mathlib.Decide.{decLt}
 use native.Mathlib.Omega.{arith}
 use lib.ListN.{length, take, drop, replicate, set, length-append, length-replicate, drop-of-length-le}
 use lib.Seq.{sets, sets-eq, take-all, take-append-le, take-append-add, take-append-seam, drop-append-add, take-nil}
-use Rattle.position_intervals.specs.Asked.{countUp}
-use Rattle.position_intervals.specs.Inner.{lastWord}
-use Rattle.position_intervals.proofs.Widths.{length-count}
+use Rattle.position_given.specs.Positions.{countUp}
+use Rattle.position_given.specs.Inner.{lastWord}
+use Rattle.position_given.proofs.Widths.{length-count}
 use Rattle.position_report.specs.declared.PositionMismatch.{PositionMismatch}
 use Rattle.position_report.specs.Reports.{mostReported, reportOf}
 use Rattle.position_report.specs.Inner.{withRun}

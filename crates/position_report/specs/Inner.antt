@@ -3,8 +3,8 @@
 use Prim.Native.Nat.{ℕ, _+_, _-_, min}
 use mathlib.Core.List.{List}
 use lib.Seq.{sets}
-use Rattle.position_intervals.specs.Asked.{countUp}
-use Rattle.position_intervals.specs.Inner.{lastWord}
+use Rattle.position_given.specs.Positions.{countUp}
+use Rattle.position_given.specs.Inner.{lastWord}
 use Rattle.position_report.specs.declared.PositionMismatch.{PositionMismatch}
 use Rattle.position_report.specs.declared.Counted.{Counted}
 use Rattle.position_report.specs.Reports.{mostReported}

@@ -8,12 +8,12 @@ ghost use mathlib.Core.Path.{_≡_};
 ghost use mathlib.Core.List.{[]};
 ghost use Prim.Native.Nat.{_+_, _-_, _≤_, min};
 ghost use lib.Seq.{sets};
-ghost use Rattle.position_intervals.specs.Asked.{countUp};
-ghost use Rattle.position_intervals.specs.Inner.{lastWord};
+ghost use Rattle.position_given.specs.Positions.{countUp};
+ghost use Rattle.position_given.specs.Inner.{lastWord};
 ghost use Rattle.position_report.specs.Reports.{mostReported, reportOf};
 ghost use Rattle.position_report.specs.Inner.{reportAt, reportWith, withRun};
-use position_intervals::LAST_WORD;
-use position_intervals::smaller;
+use position_given::LAST_WORD;
+use position_given::smaller;
 
 // How many positions are off, and the smallest of them: the first count places of examples. Unused places are 0.
 pub struct PositionMismatch {

@@ -15,7 +15,7 @@ use denote.Slice.{ShrSlice, slice-vals}
 use borrow.Table.Referent.{fInt}
 use borrow.Rule.Slice.Shared.{OwnH}
 use borrow.Rule.Slice.Know.{AllWT, fit-at, shs-known}
-use Rattle.position_intervals.proofs.Widths.{Words}
+use Rattle.position_given.proofs.Widths.{Words}
 
 module _ {M : Type 1} (𝓤 : URA M) (H : Heap 𝓤) (A : Atoms 𝓤) (W : Given 𝓤 H A) (ℓ : Lifetime) (κ : Lft) (q : Share) (s : RefT (List ℕ)) where
   abbrev Own : Fml

@@ -8,7 +8,7 @@ use lib.Dec.{leb}
 use borrow.Author.Tests.{le-leb}
 use Rattle.intervals.specs.Intervals.{Interval}
 use Rattle.item_check.specs.Checks.{Verdict, refused}
-use Rattle.position_intervals.specs.Asked.{countUp, positionsOf}
+use Rattle.position_given.specs.Positions.{countUp, positionsOf}
 use Rattle.position_mismatch.specs.Reports.{firstCrossing, spansAnswer}
 
 -- the end of the last span, or e where there is none

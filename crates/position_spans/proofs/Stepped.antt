@@ -6,8 +6,8 @@ use native.Mathlib.Numerals.{add-one}
 use native.Mathlib.Omega.{arith}
 use lib.ListN.{length, getD, drop, drop-of-length-le, length-map}
 use lib.Seq.{drop-cons}
-use Rattle.position_intervals.specs.Inner.{lastWord}
-use Rattle.position_intervals.proofs.Widths.{Words, Ends}
+use Rattle.position_given.specs.Inner.{lastWord}
+use Rattle.position_given.proofs.Widths.{Words, Ends}
 use Rattle.position_mismatch.specs.declared.SpanWalk.{SpanWalk}
 use Rattle.position_mismatch.specs.declared.Compared.{Compared}
 use Rattle.position_mismatch.specs.Reports.{spansAnswer}

@@ -14,8 +14,8 @@ use Rattle.insert_order.specs.Refusals.{firstClash}
 use Rattle.insert_merge.specs.Merge.{fateOf, staying, merged, mergedWith}
 use Rattle.insert.specs.Insertion.{placed, inserted}
 use Rattle.pairs_sort.specs.Pairs.{pairsFrom}
-use Rattle.position_intervals.specs.Given.{firstTouching, canonicalVerdict, firstFalling, ascendingVerdict}
-use Rattle.position_intervals.specs.Asked.{countUp, positionsOf}
+use Rattle.position_given.specs.Given.{firstTouching, canonicalVerdict, firstFalling, ascendingVerdict}
+use Rattle.position_given.specs.Positions.{countUp, positionsOf}
 use Rattle.position_key.specs.Keys.{beBytes}
 use Rattle.position_query.specs.Covered.{holdsPosition, someHolds, covered, firstFault}
 use Rattle.position_report.specs.Reports.{reportOf}

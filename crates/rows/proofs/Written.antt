@@ -16,7 +16,7 @@ use Rattle.item_check.proofs.Laws.{accepts}
 use Rattle.pairs_sort.specs.Pairs.{joinedFrom, joined, pairs}
 use Rattle.pairs_sort.proofs.Laws.{pairs-length}
 use Rattle.pairs_sort.proofs.Joined.{Starts, joined-canonical, holds-joined}
-use Rattle.position_intervals.specs.Inner.{lastWord}
+use Rattle.position_given.specs.Inner.{lastWord}
 use Rattle.key_order.specs.Words.{be}
 use Rattle.position_query.specs.Covered.{firstFault, queryVerdict, FromQueryItems}
 use Rattle.position_query.specs.Inner.{ranges}

@@ -24,8 +24,9 @@ use Rattle.intersect.specs.Pair.{pairAnswer}
 use Rattle.intersect_many.specs.Lists.{sharedItems, onlyItems, manyAnswer}
 use Rattle.intersect_many.specs.Demand.{Shown, shown}
 use Rattle.insert.specs.Answers.{insertAnswer, listAfter}
-use Rattle.position_intervals.specs.Asked.{countUp, containsAnswer}
-use Rattle.position_intervals.specs.Inner.{lastWord}
+use Rattle.position_given.specs.Positions.{countUp}
+use Rattle.position_intervals.specs.Asked.{containsAnswer}
+use Rattle.position_given.specs.Inner.{lastWord}
 use Rattle.position_key.specs.Keys.{keySize}
 use Rattle.position_query.specs.Covered.{covered, queryVerdict}
 use Rattle.position_report.specs.declared.PositionMismatch.{PositionMismatch}

@@ -4,7 +4,7 @@ use crate::words::holds_all;
 use crate::words::is_left;
 use crate::words::room;
 use item_check::Refusal;
-use position_intervals::RowCount;
+use position_given::RowCount;
 use position_key::PositionKey;
 use position_key::be_u64;
 use position_query::Built;

@@ -1,7 +1,7 @@
 -- `add_run` meets its contract. Assumes nothing.
 use Prim.Native.Nat.{_+_, min}
 use mathlib.Core.Path.{_≡_}
-use Rattle.position_intervals.specs.Inner.{lastWord}
+use Rattle.position_given.specs.Inner.{lastWord}
 use Rattle.position_report.specs.Inner.{withRun}
 use borrow.Author.Needs.{needs}
 use Rattle.position_report.proofs.add_run.Statement.{statement}

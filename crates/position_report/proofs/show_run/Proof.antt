@@ -4,7 +4,7 @@ use Prim.Native.Nat.{_+_, _-_, _≤_}
 use mathlib.Core.Path.{_≡_, sym, _∙_}
 use native.Mathlib.Omega.{arith}
 use lib.Seq.{sets}
-use Rattle.position_intervals.specs.Asked.{countUp}
+use Rattle.position_given.specs.Positions.{countUp}
 use Rattle.position_report.specs.Reports.{mostReported}
 use Rattle.position_report.proofs.Runs.{run-none, run-start, run-more, run-end}
 use Rattle.position_report.proofs.show_run.Statement.{statement}

@@ -47,7 +47,7 @@ use denote.Triple.Table.{entered, cited}
 use denote.Triple.Walked.{says, Stays, stay-none-slice, walkOf, goes-none-slice, Walks, ends-at, walked, walk-meets}
 use denote.Exit.{yes}
 use denote.Triple.Clauses.{ensured, lasts}
-use Rattle.position_intervals.proofs.Widths.{Words}
+use Rattle.position_given.proofs.Widths.{Words}
 use Rattle.position_report.specs.declared.PositionMismatch.{PositionMismatch}
 use Rattle.position_mismatch.specs.declared.SpanWalk.{SpanWalk}
 use Rattle.position_mismatch.specs.declared.Compared.{Compared}

@@ -1,5 +1,5 @@
 -- `contains` meets its contract: the check, then the halves. Assumes nothing.
-use Rattle.position_intervals.proofs.Accepted.{sound-of}
+use Rattle.position_given.proofs.Accepted.{sound-of}
 use borrow.Author.Needs.{needs}
 use Rattle.position_intervals.proofs.ask.contains.Statement.{statement}
 use Rattle.position_intervals.proofs.ask.contains.Tie as tie

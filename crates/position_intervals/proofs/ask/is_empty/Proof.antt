@@ -3,8 +3,8 @@ use mathlib.Core.Path.{ap}
 use mathlib.Core.Bool.{Bool}
 use denote.Ref.{now}
 use Rattle.item_check.specs.Checks.{answered}
-use Rattle.position_intervals.proofs.Accepted.{sound-of}
-use Rattle.position_intervals.proofs.Widths.{none-covered}
+use Rattle.position_given.proofs.Accepted.{sound-of}
+use Rattle.position_given.proofs.Widths.{none-covered}
 use borrow.Author.Needs.{needs}
 use Rattle.position_intervals.proofs.ask.is_empty.Statement.{statement}
 use Rattle.position_intervals.proofs.ask.is_empty.Tie as tie

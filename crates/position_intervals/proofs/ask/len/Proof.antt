@@ -1,5 +1,5 @@
 -- `len` meets its contract: the check, then the sum of the widths. Assumes nothing.
-use Rattle.position_intervals.proofs.Accepted.{sound-of}
+use Rattle.position_given.proofs.Accepted.{sound-of}
 use borrow.Author.Needs.{needs}
 use Rattle.position_intervals.proofs.ask.len.Statement.{statement}
 use Rattle.position_intervals.proofs.ask.len.Tie as tie

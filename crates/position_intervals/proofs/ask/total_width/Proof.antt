@@ -6,9 +6,9 @@ use lib.ListN.{length}
 use native.Mathlib.Omega.{arith}
 use denote.Ref.{now}
 use Rattle.pairs_sort.specs.Pairs.{pairsFrom}
-use Rattle.position_intervals.specs.Given.{intervalsOf}
-use Rattle.position_intervals.specs.Asked.{positionsOf}
-use Rattle.position_intervals.proofs.Widths.{width-more, width-end, all-fit, nonempty-at}
+use Rattle.position_given.specs.Given.{intervalsOf}
+use Rattle.position_given.specs.Positions.{positionsOf}
+use Rattle.position_given.proofs.Widths.{width-more, width-end, all-fit, nonempty-at}
 use borrow.Author.Needs.{needs}
 use Rattle.position_intervals.proofs.ask.total_width.Statement.{statement}
 use Rattle.position_intervals.proofs.ask.total_width.Tie as tie

@@ -1,6 +1,6 @@
 -- `extra_in` meets its contract: the checks, then the pass. Assumes nothing.
 use mathlib.Core.Path.{_∙_}
-use Rattle.position_intervals.proofs.Accepted.{sound-proved}
+use Rattle.position_given.proofs.Accepted.{sound-proved}
 use borrow.Author.Needs.{needs}
 use Rattle.position_mismatch.proofs.compare.extra_in.Statement.{statement}
 use Rattle.position_mismatch.proofs.compare.extra_in.Tie as tie

@@ -1,6 +1,6 @@
 -- `missing_from` meets its contract: the checks, then the pass. Assumes nothing.
 use mathlib.Core.Path.{_∙_}
-use Rattle.position_intervals.proofs.Accepted.{sound-proved}
+use Rattle.position_given.proofs.Accepted.{sound-proved}
 use borrow.Author.Needs.{needs}
 use Rattle.position_mismatch.proofs.compare.missing_from.Statement.{statement}
 use Rattle.position_mismatch.proofs.compare.missing_from.Tie as tie

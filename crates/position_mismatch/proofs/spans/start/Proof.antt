@@ -1,6 +1,6 @@
 -- `start` meets its contract. Assumes nothing.
 use denote.Ref.{now}
-use Rattle.position_intervals.specs.Given.{intervalsVerdict}
+use Rattle.position_given.specs.Given.{intervalsVerdict}
 use Rattle.position_mismatch.proofs.Steps.{checked-of}
 use borrow.Author.Needs.{needs}
 use Rattle.position_mismatch.proofs.spans.start.Statement.{statement}

@@ -6,11 +6,11 @@ use lib.ListN.{length}
 use native.Mathlib.Omega.{arith}
 use borrow.Author.Tests.{not-true, not-false}
 use Rattle.pairs_sort.specs.Pairs.{pairs, pairsFrom}
-use Rattle.position_intervals.specs.Given.{canonicalVerdict, firstTouching}
-use Rattle.position_intervals.proofs.Accepted.{touching-end, touching-here, touching-next, canonical-none, canonical-first, canonical-start}
+use Rattle.position_given.specs.Given.{canonicalVerdict, firstTouching}
+use Rattle.position_given.proofs.Accepted.{touching-end, touching-here, touching-next, canonical-none, canonical-first, canonical-start}
 use borrow.Author.Needs.{needs}
-use Rattle.position_intervals.proofs.given.check_canonical.Statement.{statement}
-use Rattle.position_intervals.proofs.given.check_canonical.Tie as tie
+use Rattle.position_given.proofs.check_canonical.Statement.{statement}
+use Rattle.position_given.proofs.check_canonical.Tie as tie
 
 abbrev Inv-loop : tie.InvT-loop
 Inv-loop intervals count end₀ i₀ end i =

@@ -1,12 +1,25 @@
-// The checks of intervals and of proved positions, in the order that document 01 fixes.
+// Module 6 of document 01: intervals and proved positions, which are lent as words: their checks, in the order that document 01 fixes.
+// Definitions: specs/Given.antt (the checks), specs/Positions.antt (the positions of intervals), specs/Inner.antt (what inner and private
+// functions promise, here and in the crates above). Laws: proofs/Accepted.antt, proofs/Widths.antt.
+//
+// Every function is inner: it is public only because other crates need it, and its definition covers every input.
 ghost use mathlib.Core.Path.{_≡_};
-ghost use Prim.Native.Nat.{_/_};
+ghost use Prim.Native.Nat.{_/_, min};
 ghost use lib.ListN.{length};
 ghost use Rattle.item_check.specs.Checks.{verdictOf};
 ghost use Rattle.pairs_sort.specs.Pairs.{pairs};
-ghost use Rattle.position_intervals.specs.Given.{intervalsVerdict, canonicalVerdict, ascendingVerdict, provedVerdict};
+ghost use Rattle.position_given.specs.Given.{intervalsVerdict, canonicalVerdict, ascendingVerdict, provedVerdict};
 use item_check::Checked;
 use item_check::refuse;
+
+// The last u64. As a position it is covered by nothing, since no count is above it: nothing adds 1 to it.
+pub const LAST_WORD: u64 = 18446744073709551615;
+
+// A row of the log. Nothing adds two of them (01 m6.7, form.2).
+pub struct LogPosition(pub u64);
+
+// How many rows (01 m6.7, form.2).
+pub struct RowCount(pub u64);
 
 // inner: whether words are intervals: in pairs, and canonical.
 pub fn check_intervals(intervals: &[u64]) -> Checked
@@ -72,4 +85,11 @@ fn check_ascending(proved: &[u64]) -> Checked
         i += 1;
     }
     Checked::Accepted
+}
+
+// inner: the smaller of two numbers.
+pub fn smaller(x: u64, y: u64) -> u64
+    ensures { λ r. ⌜ r ≡ min x y ⌝ }
+{
+    if x < y { x } else { y }
 }

@@ -12,9 +12,9 @@ use Rattle.intervals.specs.Intervals.{Interval, Apart, Canonical, holds}
 use Rattle.intervals.proofs.Members.{inside-past}
 use Rattle.pairs_sort.specs.Pairs.{start, finish, pairsFrom}
 use Rattle.pairs_sort.proofs.Laws.{pairs-more, pairs-end}
-use Rattle.position_intervals.specs.Given.{intervalsOf}
-use Rattle.position_intervals.specs.Asked.{countUp, positionsOf}
-use Rattle.position_intervals.specs.Inner.{Sound}
+use Rattle.position_given.specs.Given.{intervalsOf}
+use Rattle.position_given.specs.Positions.{countUp, positionsOf}
+use Rattle.position_given.specs.Inner.{Sound}
 
 pub length-count : (s k : ℕ) → length (countUp s k) ≡ k
 unfolding countUp

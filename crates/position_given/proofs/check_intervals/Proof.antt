@@ -8,8 +8,8 @@ use lib.Dec.{eqb}
 use borrow.Author.Tests.{ne-eqb}
 use Rattle.item_check.proofs.Tests.{tests}
 use borrow.Author.Needs.{needs}
-use Rattle.position_intervals.proofs.given.check_intervals.Statement.{statement}
-use Rattle.position_intervals.proofs.given.check_intervals.Tie as tie
+use Rattle.position_given.proofs.check_intervals.Statement.{statement}
+use Rattle.position_given.proofs.check_intervals.Tie as tie
 
 returns : tie.Need-returns
 returns c =

@@ -1,7 +1,7 @@
 -- `check_proved` meets its contract: the intervals, then the positions. Assumes nothing.
 use borrow.Author.Needs.{needs}
-use Rattle.position_intervals.proofs.given.check_proved.Statement.{statement}
-use Rattle.position_intervals.proofs.given.check_proved.Tie as tie
+use Rattle.position_given.proofs.check_proved.Statement.{statement}
+use Rattle.position_given.proofs.check_proved.Tie as tie
 
 returns : tie.Need-returns
 returns c = rw (← c .before .before .before .check-intervals .ensures, c .before .r .given .1)

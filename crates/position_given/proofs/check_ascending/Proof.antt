@@ -4,11 +4,11 @@ use Prim.Native.Nat.{_-_}
 use mathlib.Core.Path.{_≡_, sym, _∙_}
 use lib.ListN.{length, drop}
 use native.Mathlib.Omega.{arith}
-use Rattle.position_intervals.specs.Given.{ascendingVerdict, firstFalling}
-use Rattle.position_intervals.proofs.Accepted.{falling-end, falling-here, falling-next, ascending-none, ascending-start}
+use Rattle.position_given.specs.Given.{ascendingVerdict, firstFalling}
+use Rattle.position_given.proofs.Accepted.{falling-end, falling-here, falling-next, ascending-none, ascending-start}
 use borrow.Author.Needs.{needs}
-use Rattle.position_intervals.proofs.given.check_ascending.Statement.{statement}
-use Rattle.position_intervals.proofs.given.check_ascending.Tie as tie
+use Rattle.position_given.proofs.check_ascending.Statement.{statement}
+use Rattle.position_given.proofs.check_ascending.Tie as tie
 
 abbrev Inv-loop : tie.InvT-loop
 Inv-loop proved count last₀ i₀ last i = (count ≡ length proved) × (ascendingVerdict proved ≡ firstFalling i last (drop i proved))

@@ -5,7 +5,7 @@ use mathlib.Core.Path.{_≡_}
 use mathlib.Core.List.{List, [], _∷_}
 use lib.ListN.{length}
 use Rattle.intervals.specs.Intervals.{Canonical}
-use Rattle.position_intervals.specs.Given.{intervalsOf}
+use Rattle.position_given.specs.Given.{intervalsOf}
 
 -- 01 m6.4: what accepted intervals are: words in pairs, canonical
 pub record Sound (ws : List ℕ) : Type 0 where

@@ -16,8 +16,8 @@ use Rattle.item_check.specs.Checks.{Verdict, accepted, refused, verdictOf}
 use Rattle.item_check.proofs.Laws.{accepts}
 use Rattle.pairs_sort.specs.Pairs.{start, finish, pairsFrom, pairs}
 use Rattle.pairs_sort.proofs.Laws.{pairs-more, pairs-end}
-use Rattle.position_intervals.specs.Inner.{Sound, Ascends}
-use Rattle.position_intervals.specs.Given.{intervalsOf, evenVerdict, firstTouching, canonicalVerdict, intervalsVerdict, firstFalling, ascendingVerdict, provedVerdict}
+use Rattle.position_given.specs.Inner.{Sound, Ascends}
+use Rattle.position_given.specs.Given.{intervalsOf, evenVerdict, firstTouching, canonicalVerdict, intervalsVerdict, firstFalling, ascendingVerdict, provedVerdict}
 
 -- an answer is no refusal
 never-accepted : {X : Type 0} {n s i : ℕ} → refused n s i ≡ accepted → X

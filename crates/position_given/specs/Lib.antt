@@ -1,0 +1,3 @@
+pub mod Given
+pub mod Positions
+pub mod Inner

@@ -1,0 +1,14 @@
+-- The positions of intervals, one by one. Definitions only. Assumes nothing.
+use Prim.Native.Nat.{ℕ, zero, suc, _-_}
+use mathlib.Core.List.{List, [], _∷_, _++_}
+use Rattle.intervals.specs.Intervals.{Interval}
+
+-- 01 m6.4: k numbers from s on
+unfoldable pub countUp : ℕ → ℕ → List ℕ
+countUp s zero = []
+countUp s (suc k) = s ∷ countUp (suc s) k
+
+-- 01 m6.4: half-open: the positions of each interval, from its start on, below its end
+unfoldable pub positionsOf : List Interval → List ℕ
+positionsOf [] = []
+positionsOf (a ∷ A) = countUp (a .0) (a .1 - a .0) ++ positionsOf A
