@@ -1,5 +1,6 @@
 // Module 7 of document 01: reads a KRL file from standard input and writes the listing of its two lists, or a refusal, to standard output.
-// `krl_file` reads, `intersect_many` makes the three lists, `krl_listing` has the lines. Nothing is written before all is decided.
+// `krl_file` reads, `intersect_many` makes the three lists, `krl_listing` has their lines and `krl_line` a refusal's. Nothing is written before
+// all is decided.
 ghost use mathlib.Core.Path.{_≡_};
 ghost use lib.ListN.{length};
 use intersect_many::ManyAnswer;
@@ -10,9 +11,9 @@ use item_words::ITEM_SIZE;
 use krl_file::FileAnswer;
 use krl_file::pool_of;
 use krl_file::read_file;
-use krl_listing::Line;
+use krl_line::Line;
+use krl_line::refusal_line;
 use krl_listing::listing_line;
-use krl_listing::refusal_line;
 
 const INPUT: i32 = 0;
 

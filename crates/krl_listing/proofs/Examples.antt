@@ -1,10 +1,11 @@
--- The listing and a refusal of document 01, byte for byte, and the other forms of a line, by computation. Assumes nothing.
+-- The listing of document 01, byte for byte, and the other forms of a line, by computation. Assumes nothing.
 use mathlib.Core.Path.{_≡_, refl}
 use mathlib.Core.List.{[], _∷_}
 use Rattle.query_item.specs.declared.QueryItem.the-variants.{Key, Range, RangeFull, RangeToInclusive, RangeAfterTo}
 use Rattle.query_item.specs.Items.{keyAt, wordsOf}
 use Rattle.lent_text.specs.Text.{digits}
-use Rattle.krl_listing.specs.Listing.{hexDigit, hexText, keyText, itemLine, itemLines, listLines, listingLines, joined, listing, sideText, placeText, refusalLine}
+use Rattle.key_text.specs.Text.{hexDigit, hexText, keyText}
+use Rattle.krl_listing.specs.Listing.{itemLine, itemLines, listLines, listingLines, joined, listing}
 
 -- 01 m7: pool 01 05 03; shared Key 03; ours Range 01 03 and RangeAfterTo 03 05; theirs none
 document-listing :
@@ -12,26 +13,6 @@ document-listing :
     ≡ 115 ∷ 104 ∷ 97 ∷ 114 ∷ 101 ∷ 100 ∷ 32 ∷ 49 ∷ 10 ∷ 75 ∷ 101 ∷ 121 ∷ 32 ∷ 48 ∷ 51 ∷ 10 ∷ 111 ∷ 117 ∷ 114 ∷ 115 ∷ 32 ∷ 50 ∷ 10 ∷ 82 ∷ 97 ∷ 110 ∷ 103 ∷ 101 ∷ 32 ∷ 48 ∷ 49 ∷ 32 ∷ 48 ∷ 51 ∷ 10 ∷ 82 ∷ 97 ∷ 110 ∷ 103 ∷ 101 ∷ 65 ∷ 102 ∷ 116 ∷ 101 ∷ 114 ∷ 84 ∷ 111 ∷ 32 ∷ 48 ∷ 51 ∷ 32 ∷ 48 ∷ 53 ∷ 10 ∷ 116 ∷ 104 ∷ 101 ∷ 105 ∷ 114 ∷ 115 ∷ 32 ∷ 48 ∷ 10 ∷ []
 unfolding digits hexDigit hexText keyText itemLine itemLines listLines listingLines joined
 document-listing = refl
-
--- "refused 4 theirs 1"
-document-refusal : refusalLine 4 1 1 ≡ 114 ∷ 101 ∷ 102 ∷ 117 ∷ 115 ∷ 101 ∷ 100 ∷ 32 ∷ 52 ∷ 32 ∷ 116 ∷ 104 ∷ 101 ∷ 105 ∷ 114 ∷ 115 ∷ 32 ∷ 49 ∷ 10 ∷ []
-unfolding digits sideText placeText
-document-refusal = refl
-
--- "refused 2 ours 12"
-our-refusal : refusalLine 2 0 12 ≡ 114 ∷ 101 ∷ 102 ∷ 117 ∷ 115 ∷ 101 ∷ 100 ∷ 32 ∷ 50 ∷ 32 ∷ 111 ∷ 117 ∷ 114 ∷ 115 ∷ 32 ∷ 49 ∷ 50 ∷ 10 ∷ []
-unfolding digits sideText placeText
-our-refusal = refl
-
--- "refused 6", "refused 10"
-
-bare-room : refusalLine 6 0 0 ≡ 114 ∷ 101 ∷ 102 ∷ 117 ∷ 115 ∷ 101 ∷ 100 ∷ 32 ∷ 54 ∷ 10 ∷ []
-unfolding digits placeText
-bare-room = refl
-
-bare-file : refusalLine 10 0 0 ≡ 114 ∷ 101 ∷ 102 ∷ 117 ∷ 115 ∷ 101 ∷ 100 ∷ 32 ∷ 49 ∷ 48 ∷ 10 ∷ []
-unfolding digits placeText
-bare-file = refl
 
 -- "Range - ABFF": an empty key, and digits above 9
 letters : itemLine (171 ∷ 255 ∷ []) (Range (keyAt 0 0) (keyAt 0 2)) ≡ 82 ∷ 97 ∷ 110 ∷ 103 ∷ 101 ∷ 32 ∷ 45 ∷ 32 ∷ 65 ∷ 66 ∷ 70 ∷ 70 ∷ 10 ∷ []

@@ -1,5 +1,5 @@
 -- The lines one after the other are the listing, and a buffer of the longest line serves for every line. Assumes nothing.
-use Prim.Native.Nat.{ℕ, zero, suc, _+_, _-_, _*_, _≤_, _<_}
+use Prim.Native.Nat.{ℕ, zero, suc, _+_, _-_, _≤_, _<_}
 use mathlib.Core.Path.{_≡_, refl, sym, ap, _∙_}
 use mathlib.Core.Bool.{Bool, true, false, cond}
 use mathlib.Core.List.{List, [], _∷_, _++_}
@@ -10,7 +10,6 @@ use lib.Dec.{eqb}
 use borrow.Author.Tests.{le-ltb}
 use Rattle.query_item.specs.declared.KeyAt.{KeyAt}
 use Rattle.query_item.specs.declared.ItemWords.{ItemWords}
-use Rattle.query_item.specs.declared.QueryItem.{QueryItem}
 use Rattle.query_item.specs.declared.QueryItem.the-variants.{
   Key,
   Range,
@@ -26,12 +25,13 @@ use Rattle.query_item.specs.declared.QueryItem.the-variants.{
 use Rattle.query_item.specs.Items.{bytesOf, queryItem, itemAt, itemsFrom}
 use Rattle.item_check.specs.Checks.{Answer, answered, mostKey}
 use Rattle.intersect_many.specs.declared.ManyCounts.{ManyCounts}
+use Rattle.lent_text.specs.Text.{spacedNumber}
 use Rattle.lent_text.proofs.Laws.{decimal-few}
+use Rattle.key_text.specs.Text.{keyText, spacedKey}
+use Rattle.key_text.proofs.Laws.{length-hex, key-some, spaced-few}
+use Rattle.krl_line.specs.Lines.{lineFeed, oursWord, theirsWord, refusedWord, placeText, refusalLine, lineAnswer}
+use Rattle.krl_line.proofs.Laws.{place-few}
 use Rattle.krl_listing.specs.Listing.{
-  lineFeed,
-  keyText,
-  spacedKey,
-  spacedNumber,
   keyWord,
   rangeWord,
   rangeInclusiveWord,
@@ -47,21 +47,15 @@ use Rattle.krl_listing.specs.Listing.{
   keysLine,
   itemLine,
   sharedWord,
-  oursWord,
-  theirsWord,
   titleLine,
   listLines,
   listingLines,
   joined,
   listing,
   lineAt,
-  refusedWord,
-  placeText,
-  refusalLine,
   mostLine,
-  lineAnswer,
 }
-use Rattle.krl_listing.proofs.Lines.{length-hex, key-some, spaced-few, place-few, length-items, length-list-lines, line-title, line-item, line-shared, line-ours, line-theirs, line-none}
+use Rattle.krl_listing.proofs.Lines.{length-items, length-list-lines, line-title, line-item, line-shared, line-ours, line-theirs, line-none}
 
 -- ---- the lines one after the other
 

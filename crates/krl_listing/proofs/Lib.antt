@@ -1,4 +1,3 @@
 pub mod Laws
 pub mod Lines
 mod Examples
-pub mod Apart

@@ -1,9 +1,7 @@
--- The lines of the listing, the line of a refusal, and the answers of `listing_line` and `refusal_line`. Definitions only. Assumes nothing.
-use Prim.Native.Nat.{ℕ, _+_, _/_, _%_}
-use mathlib.Core.Bool.{cond, _||_}
+-- The lines of the listing. Definitions only. Assumes nothing.
+use Prim.Native.Nat.{ℕ}
 use mathlib.Core.List.{List, [], _∷_, _++_}
-use lib.ListN.{length, getD, drop}
-use lib.Dec.{ltb, eqb}
+use lib.ListN.{length, getD}
 use Rattle.query_item.specs.declared.KeyAt.{KeyAt}
 use Rattle.query_item.specs.declared.ItemWords.{ItemWords}
 use Rattle.query_item.specs.declared.QueryItem.{QueryItem}
@@ -19,43 +17,11 @@ use Rattle.query_item.specs.declared.QueryItem.the-variants.{
   RangeAfterTo,
   RangeAfterToInclusive,
 }
-use Rattle.query_item.specs.Items.{bytesOf, queryItem, itemsFrom}
-use Rattle.item_check.specs.Checks.{Answer, answered, refused, refusedAs}
+use Rattle.query_item.specs.Items.{queryItem, itemsFrom}
 use Rattle.intersect_many.specs.declared.ManyCounts.{ManyCounts}
-use Rattle.lent_text.specs.Text.{decimal}
-use Rattle.krl_listing.specs.declared.Line.{Line}
-use Rattle.krl_listing.specs.declared.Line.the-variants.{Bytes, Refused}
-
--- 01 m7.7: every line ends in one line feed
-abbrev pub lineFeed : List ℕ
-lineFeed = 10 ∷ []
-
--- ---- keys
-
--- 01 m7.4: keys are upper-case hexadecimal
-unfoldable pub hexDigit : ℕ → ℕ
-hexDigit d = cond (ltb d 10) (48 + d) (55 + d)
-
--- 01 m7.4: a byte is two digits, the higher first
-abbrev pub hexByte : ℕ → List ℕ
-hexByte b = hexDigit (b / 16) ∷ hexDigit (b % 16) ∷ []
-
-unfoldable pub hexText : List ℕ → List ℕ
-hexText [] = []
-hexText (b ∷ k) = hexByte b ++ hexText k
-
--- 01 m7.4: an empty key is `-`; any other its bytes in order
-unfoldable pub keyText : List ℕ → List ℕ
-keyText [] = 45 ∷ []
-keyText (b ∷ k) = hexText (b ∷ k)
-
--- 01 m7.3, the example: a space before each key, and before each number
-
-abbrev pub spacedKey : List ℕ → KeyAt → List ℕ
-spacedKey pool k = 32 ∷ keyText (bytesOf pool k)
-
-abbrev pub spacedNumber : ℕ → List ℕ
-spacedNumber n = 32 ∷ decimal n
+use Rattle.lent_text.specs.Text.{spacedNumber}
+use Rattle.key_text.specs.Text.{spacedKey}
+use Rattle.krl_line.specs.Lines.{lineFeed, oursWord, theirsWord}
 
 -- ---- items, by their names in the table of 01
 
@@ -129,14 +95,6 @@ itemLine pool (RangeAfterToInclusive a b) = keysLine pool rangeAfterToInclusiveW
 abbrev pub sharedWord : List ℕ
 sharedWord = 115 ∷ 104 ∷ 97 ∷ 114 ∷ 101 ∷ 100 ∷ []
 
--- "ours"
-abbrev pub oursWord : List ℕ
-oursWord = 111 ∷ 117 ∷ 114 ∷ 115 ∷ []
-
--- "theirs"
-abbrev pub theirsWord : List ℕ
-theirsWord = 116 ∷ 104 ∷ 101 ∷ 105 ∷ 114 ∷ 115 ∷ []
-
 -- 01 m7.3, the example: each list has a line with its name and its count
 abbrev pub titleLine : List ℕ → ℕ → List ℕ
 titleLine title n = title ++ (spacedNumber n ++ lineFeed)
@@ -166,39 +124,6 @@ unfoldable pub lineAt : List ℕ → List ℕ → List ℕ → List ℕ → Many
 lineAt pool both mine yours n i =
     getD (listingLines pool (itemsFrom both 0 (n .«in_both»)) (itemsFrom mine 0 (n .ours)) (itemsFrom yours 0 (n .theirs))) i []
 
--- ---- a refusal (01 m7.6)
-
--- "refused"
-abbrev pub refusedWord : List ℕ
-refusedWord = 114 ∷ 101 ∷ 102 ∷ 117 ∷ 115 ∷ 101 ∷ 100 ∷ []
-
--- 01 refusal.1: the side, 0 ours, 1 theirs
-unfoldable pub sideText : ℕ → List ℕ
-sideText side = 32 ∷ cond (eqb side 0) oursWord theirsWord
-
--- 01 m7.6: 6 and 10 stand bare
-unfoldable pub placeText : ℕ → ℕ → ℕ → List ℕ
-placeText number side index = cond (eqb number 6 || eqb number 10) [] (sideText side ++ spacedNumber index)
-
--- 01 m7.6: a refusal writes one line, with side and index
-abbrev pub refusalLine : ℕ → ℕ → ℕ → List ℕ
-refusalLine number side index = refusedWord ++ (spacedNumber number ++ (placeText number side index ++ lineFeed))
-
--- ---- answers
-
 -- 01 m7.4, no.2: the longest line of items with keys of at most 255 bytes: RangeAfterToInclusive with two of them
 abbrev pub mostLine : ℕ
 mostLine = 1044
-
--- 01 no.6: the line is longer than the lent bytes; 0 and 0
-unfoldable pub lineAnswer : List ℕ → ℕ → Answer ℕ
-lineAnswer line room = cond (ltb room (length line)) (refused 6 0 0) (answered (length line))
-
--- 01 demand.1: the bytes then: the line and what stood past it, or all as they were
-unfoldable pub lineIn : List ℕ → List ℕ → List ℕ
-lineIn line out = cond (ltb (length out) (length line)) out (line ++ drop (length line) out)
-
--- 01 form.11: the paper's numbers for each case of the code's answer
-abbrev pub lineOf : Line → Answer ℕ
-lineOf (Bytes n) = answered n
-lineOf (Refused r) = refusedAs r

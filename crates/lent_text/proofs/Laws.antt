@@ -8,7 +8,7 @@ use native.Mathlib.Nat.{pow-suc}
 use native.Mathlib.Numerals.{add-one}
 use native.Mathlib.Omega.{arith}
 use lib.ListN.{length, getD, drop, set, length-append, drop-of-length-le}
-use lib.Seq.{sets, sets-eq, drop-cons}
+use lib.Seq.{sets, sets-eq, set-out, drop-cons}
 use borrow.Author.Tests.{lt-ltb, le-ltb}
 use Rattle.lent_text.specs.Text.{digits, decimal, stored}
 
@@ -61,6 +61,10 @@ sets-append : (xs ys l : List ℕ) (at : ℕ) → sets (sets l at xs) (at + leng
 sets-append [] ys l at = let q : at + 0 ≡ at = omega arith in rw q
 sets-append (x ∷ xs) ys l at = let q : at + suc (length xs) ≡ suc at + length xs = omega arith in rw q (sets-append xs ys (set l at x) (suc at))
 
+sets-past : (xs l : List ℕ) (at : ℕ) → length l ≤ at → sets l at xs ≡ l
+sets-past [] l at h = refl
+sets-past (x ∷ xs) l at h = rw (set-out l at x h) (sets-past xs l (suc at) (omega arith))
+
 pub stored-append : (w : Bool) (l : List ℕ) (at : ℕ) (xs ys : List ℕ) → stored w (stored w l at xs) (at + length xs) ys ≡ stored w l at (xs ++ ys)
 unfolding stored
 stored-append true l at xs ys = sets-append xs ys l at
@@ -71,16 +75,41 @@ unfolding stored
 stored-none true l at = refl
 stored-none false l at = refl
 
--- a text after another: what both have stored, and where the next stands
-pub stored-then : (w : Bool) (l m o : List ℕ) (at b c : ℕ) (xs ys : List ℕ) → m ≡ stored w l at xs → b ≡ at + length xs → o ≡ stored w m b ys → c ≡ b + length ys
-    → (c ≡ at + length (xs ++ ys)) × (o ≡ stored w l at (xs ++ ys))
-stored-then w l m o at b c xs ys is-m is-b is-o is-c =
-    (omega (arith, length-append xs ys), is-o ∙ rw (is-m, is-b) (stored-append w l at xs ys))
+-- nothing is stored past the end
+pub stored-past : (w : Bool) (l : List ℕ) (at : ℕ) (xs : List ℕ) → length l ≤ at → stored w l at xs ≡ l
+unfolding stored
+stored-past true l at xs h = sets-past xs l at h
+stored-past false l at xs h = refl
 
--- the same where lengths are told, not places
-pub stored-next : (w : Bool) (l m o : List ℕ) (at k : ℕ) (xs ys : List ℕ) → m ≡ stored w l at xs → k ≡ length xs → o ≡ stored w m (at + k) ys
-    → (k + length ys ≡ length (xs ++ ys)) × (o ≡ stored w l at (xs ++ ys))
-stored-next w l m o at k xs ys is-m is-k is-o = (omega (arith, length-append xs ys), is-o ∙ rw (is-m, is-k) (stored-append w l at xs ys))
+-- texts one after another, of j, k, .. bytes
+
+pub stored-next : (w : Bool) (l m o : List ℕ) (at j k : ℕ) (xs ys : List ℕ) → m ≡ stored w l at xs → j ≡ length xs → o ≡ stored w m (at + j) ys → k ≡ length ys
+    → (j + k ≡ length (xs ++ ys)) × (o ≡ stored w l at (xs ++ ys))
+stored-next w l m o at j k xs ys is-m is-j is-o is-k =
+    (omega (arith, length-append xs ys), is-o ∙ rw (is-m, is-j) (stored-append w l at xs ys))
+
+-- the same from the front on
+
+pub stored-two : (w : Bool) (l m o : List ℕ) (j k : ℕ) (xs ys : List ℕ) → m ≡ stored w l 0 xs → j ≡ length xs → o ≡ stored w m j ys → k ≡ length ys
+    → (j + k ≡ length (xs ++ ys)) × (o ≡ stored w l 0 (xs ++ ys))
+stored-two w l m o j k xs ys is-m is-j is-o is-k =
+    let z : 0 + j ≡ j = omega arith in
+    stored-next w l m o 0 j k xs ys is-m is-j (rw z is-o) is-k
+
+pub stored-three : (w : Bool) (l m o p : List ℕ) (j k n : ℕ) (xs ys zs : List ℕ) → m ≡ stored w l 0 xs → j ≡ length xs → o ≡ stored w m j ys → k ≡ length ys
+    → p ≡ stored w o (j + k) zs → n ≡ length zs → (j + k + n ≡ length (xs ++ (ys ++ zs))) × (p ≡ stored w l 0 (xs ++ (ys ++ zs)))
+stored-three w l m o p j k n xs ys zs is-m is-j is-o is-k is-p is-n =
+    let later = stored-next w m o p j k n ys zs is-o is-k is-p is-n in
+    let all = stored-two w l m p j (k + n) xs (ys ++ zs) is-m is-j (later .1) (later .0) in
+    (omega (arith, all .0), all .1)
+
+pub stored-four : (w : Bool) (l m o p q : List ℕ) (j k n r : ℕ) (xs ys zs us : List ℕ) → m ≡ stored w l 0 xs → j ≡ length xs → o ≡ stored w m j ys → k ≡ length ys
+    → p ≡ stored w o (j + k) zs → n ≡ length zs → q ≡ stored w p (j + k + n) us → r ≡ length us
+    → (j + k + n + r ≡ length (xs ++ (ys ++ (zs ++ us)))) × (q ≡ stored w l 0 (xs ++ (ys ++ (zs ++ us))))
+stored-four w l m o p q j k n r xs ys zs us is-m is-j is-o is-k is-p is-n is-q is-r =
+    let later = stored-next w o p q (j + k) n r zs us is-p is-n is-q is-r in
+    let all = stored-three w l m o q j k (n + r) xs ys (zs ++ us) is-m is-j is-o is-k (later .1) (later .0) in
+    (omega (arith, all .0), all .1)
 
 pub stored-whole : (l text : List ℕ) → length text ≤ length l → stored true l 0 text ≡ text ++ drop (length text) l
 unfolding stored

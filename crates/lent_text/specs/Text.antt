@@ -14,6 +14,10 @@ digits (suc k) n = cond (ltb n 10) ((48 + n) ∷ []) (digits k (n / 10) ++ (48 +
 abbrev pub decimal : ℕ → List ℕ
 decimal n = digits 20 n
 
+-- 01 m7.3, the example: a space before each number
+abbrev pub spacedNumber : ℕ → List ℕ
+spacedNumber n = 32 ∷ decimal n
+
 -- bytes with a text stored from an index on, what has no room left out; or as they were
 unfoldable pub stored : Bool → List ℕ → ℕ → List ℕ → List ℕ
 stored write out at text = cond write (sets out at text) out

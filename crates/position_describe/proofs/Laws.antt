@@ -1,14 +1,13 @@
 -- That answers are told apart, how long the text is, and its examples stored one after another. Assumes nothing.
-use Prim.Native.Nat.{ℕ, zero, suc, _+_, _-_, _*_, _/_, _%_, _^_, _≤_, _<_}
+use Prim.Native.Nat.{ℕ, suc, _+_, _-_, _*_, _≤_, _<_}
 use mathlib.Core.Path.{_≡_, refl, sym, ap, _∙_}
-use mathlib.Core.Bool.{Bool, true, false}
+use mathlib.Core.Bool.{Bool}
 use mathlib.Core.List.{List, [], _∷_, _++_}
 use native.Mathlib.Decide.{decLt}
-use native.Mathlib.Nat.{pow-suc}
 use native.Mathlib.Numerals.{add-one}
 use native.Mathlib.Omega.{arith}
-use lib.ListN.{length, getD, take, drop, set, length-append, length-take, drop-of-length-le}
-use lib.Seq.{sets, sets-eq, drop-cons, getD-take}
+use lib.ListN.{length, getD, take, drop, length-append, length-take, drop-of-length-le}
+use lib.Seq.{drop-cons, getD-take}
 use borrow.Author.Tests.{lt-ltb, le-ltb}
 use Rattle.item_check.proofs.Laws.{refused-apart}
 use Rattle.position_report.specs.declared.PositionMismatch.{PositionMismatch}
@@ -17,7 +16,7 @@ use Rattle.position_describe.specs.declared.Described.{Described}
 use Rattle.position_describe.specs.declared.Described.the-variants.{Bytes, Refused}
 use Rattle.position_describe.specs.Text.{positionsWord, firstPart, laterNumbers, numbers, numbersOf, textOf, mostText, describedOf}
 use Rattle.lent_text.specs.Text.{decimal, stored}
-use Rattle.lent_text.proofs.Laws.{decimal-few, decimal-two, stored-append, stored-none, stored-then}
+use Rattle.lent_text.proofs.Laws.{decimal-few, decimal-two, stored-append, stored-none, stored-next}
 
 -- ---- answers are told apart
 
@@ -39,13 +38,13 @@ numbers-few [] n h l = unfold numbers in omega arith
 numbers-few (p ∷ P) n h l =
     (unfold numbers in rw (length-append (decimal p) (laterNumbers P)) (omega (arith, decimal-few p, later-few P)))
 
-pub first-few : (total count : ℕ) → count ≤ mostReported → length (firstPart total count) ≤ 10
+first-few : (total count : ℕ) → count ≤ mostReported → length (firstPart total count) ≤ 10
 first-few total count h = elim (decLt count total) [
   | yes l ↦ (unfold firstPart in rw (lt-ltb count total l) (omega (arith, decimal-two count (omega arith))))
   | no l ↦ (unfold firstPart in rw (le-ltb count total (omega arith)) (omega arith))
 ]
 
-pub examples-few : (report : PositionMismatch) → report .count ≤ mostReported → length (numbersOf report) ≤ 350
+examples-few : (report : PositionMismatch) → report .count ≤ mostReported → length (numbersOf report) ≤ 350
 examples-few report h =
     omega (arith, numbers-few (take (report .count) (report .examples)) mostReported (omega (arith, length-take (report .count) (report .examples))) (omega arith))
 
@@ -94,26 +93,28 @@ pub numbers-none : (examples : List ℕ) → numbers (take 0 examples) ≡ []
 unfolding numbers
 numbers-none examples = refl
 
--- a turn over the examples: the place and the bytes with what is left are as they were
-pub left-turn : (w : Bool) (l m examples : List ℕ) (n i to r : ℕ) → i < n → n ≤ length examples
-    → r ≡ to + length (44 ∷ 32 ∷ decimal (getD examples i 0)) → m ≡ stored w l to (44 ∷ 32 ∷ decimal (getD examples i 0))
-    → (r + length (leftOf examples n (i + 1)) ≡ to + length (leftOf examples n i))
-    × (stored w m r (leftOf examples n (i + 1)) ≡ stored w l to (leftOf examples n i))
-left-turn w l m examples n i to r h k is-r is-m =
-    let more = left-more examples n i h k in
+-- a turn over the examples: the n bytes so far, r of them new, and the bytes with what is left are as they were
+pub left-turn : (w : Bool) (l m examples : List ℕ) (count i at n r : ℕ) → i < count → count ≤ length examples
+    → r ≡ length (44 ∷ 32 ∷ decimal (getD examples i 0)) → m ≡ stored w l (at + n) (44 ∷ 32 ∷ decimal (getD examples i 0))
+    → (n + r + length (leftOf examples count (i + 1)) ≡ n + length (leftOf examples count i))
+    × (stored w m (at + (n + r)) (leftOf examples count (i + 1)) ≡ stored w l (at + n) (leftOf examples count i))
+left-turn w l m examples count i at n r h k is-r is-m =
+    let more = left-more examples count i h k in
     let text : List ℕ = 44 ∷ 32 ∷ decimal (getD examples i 0) in
-    (omega (arith, ap length more, length-append text (leftOf examples n (i + 1))), rw (is-m, is-r, more) (stored-append w l to text (leftOf examples n (i + 1))))
+    let q : at + (n + length text) ≡ at + n + length text = omega arith in
+    (omega (arith, ap length more, length-append text (leftOf examples count (i + 1))), rw (is-m, is-r, q, more) (stored-append w l (at + n) text (leftOf examples count (i + 1))))
 
 -- and at the end the whole list of examples is stored
-pub left-whole : (w : Bool) (l m o : List ℕ) (report : PositionMismatch) (at to₀ to i : ℕ) → 0 < report .count → report .count ≤ length (report .examples)
-    → report .count ≤ i → to₀ ≡ at + length (decimal (getD (report .examples) 0 0)) → m ≡ stored w l at (decimal (getD (report .examples) 0 0))
-    → to + length (leftOf (report .examples) (report .count) i) ≡ to₀ + length (leftOf (report .examples) (report .count) 1)
-    → stored w o to (leftOf (report .examples) (report .count) i) ≡ stored w m to₀ (leftOf (report .examples) (report .count) 1)
-    → (to ≡ at + length (numbersOf report)) × (o ≡ stored w l at (numbersOf report))
-left-whole w l m o report at to₀ to i some fits h is-to is-m place bytes =
+pub left-whole : (w : Bool) (l m o : List ℕ) (report : PositionMismatch) (at n₀ n i : ℕ) → 0 < report .count → report .count ≤ length (report .examples)
+    → report .count ≤ i → n₀ ≡ length (decimal (getD (report .examples) 0 0)) → m ≡ stored w l at (decimal (getD (report .examples) 0 0))
+    → n + length (leftOf (report .examples) (report .count) i) ≡ n₀ + length (leftOf (report .examples) (report .count) 1)
+    → stored w o (at + n) (leftOf (report .examples) (report .count) i) ≡ stored w m (at + n₀) (leftOf (report .examples) (report .count) 1)
+    → (n ≡ length (numbersOf report)) × (o ≡ stored w l at (numbersOf report))
+left-whole w l m o report at n₀ n i some fits h is-n is-m long bytes =
     let e = report .examples in
-    let n = report .count in
-    let none : leftOf e n i ≡ [] = left-end e n i h in
-    let there : to ≡ to₀ + length (leftOf e n 1) = omega (arith, ap length none, place) in
-    let kept : o ≡ stored w m to₀ (leftOf e n 1) = sym (rw none (stored-none w o to)) ∙ bytes in
-    rw (numbers-first e n some fits) (stored-then w l m o at to₀ to (decimal (getD e 0 0)) (leftOf e n 1) is-m is-to kept there)
+    let left = leftOf e (report .count) 1 in
+    let none : leftOf e (report .count) i ≡ [] = left-end e (report .count) i h in
+    let all : n ≡ n₀ + length left = omega (arith, ap length none, long) in
+    let kept : o ≡ stored w m (at + n₀) left = sym (rw none (stored-none w o (at + n))) ∙ bytes in
+    let both = stored-next w l m o at n₀ (length left) (decimal (getD e 0 0)) left is-m is-n kept refl in
+    rw (numbers-first e (report .count) some fits) (all ∙ both .0, both .1)

@@ -4,12 +4,14 @@
 // The text is walked twice, first to count its bytes and then, where there is room, to write them: `write` says which.
 ghost use mathlib.Core.Path.{_≡_};
 ghost use mathlib.Core.List.{_∷_, []};
-ghost use Prim.Native.Nat.{_+_, _≤_, _<_};
+ghost use Prim.Native.Nat.{_≤_};
 ghost use lib.ListN.{length};
 ghost use Rattle.position_describe.specs.Text.{firstPart, numbersOf, textOf, describedOf, describeAnswer, describedIn, refusedWith};
 ghost use Rattle.position_report.specs.Reports.{mostReported};
 ghost use Rattle.lent_text.specs.Text.{decimal, stored};
 use item_check::Refusal;
+use lent_text::put_number;
+use lent_text::put_text;
 use position_report::PositionMismatch;
 
 // The longest text of a report: so many lent bytes are always room enough.
@@ -52,66 +54,49 @@ fn put_report(out: &mut [u8], report: PositionMismatch, write: bool) -> usize
     ensures { λ r. ⌜ (r ≡ length (textOf report)) × (now (out .exit) ≡ stored write (now (out .entry)) 0 (textOf report)) ⌝ }
 {
     let a = put_number(out, 0, report.total, write);
-    let b = put_text(out, a, b" positions", write);
-    let c = put_first(out, b, report.total, report.count, write);
-    let d = put_text(out, c, b": [", write);
-    let e = put_numbers(out, d, report, write);
-    put_text(out, e, b"]", write)
+    let b = a + put_text(out, a, b" positions", write);
+    let c = b + put_first(out, b, report.total, report.count, write);
+    let d = c + put_text(out, c, b": [", write);
+    let e = d + put_numbers(out, d, report, write);
+    e + put_text(out, e, b"]", write)
 }
 
 // How many examples there are, where that is not the total.
 fn put_first(out: &mut [u8], at: usize, total: u64, count: usize, write: bool) -> usize
     requires { ⌜ at ≤ 100 ⌝ }
-    ensures { λ r. ⌜ (r ≡ at + length (firstPart total count)) × (now (out .exit) ≡ stored write (now (out .entry)) at (firstPart total count)) ⌝ }
+    ensures { λ r. ⌜ (r ≡ length (firstPart total count)) × (now (out .exit) ≡ stored write (now (out .entry)) at (firstPart total count)) × (r ≤ 28) ⌝ }
 {
     if (count as u64) < total {
-        let b = put_text(out, at, b", first ", write);
-        return put_number(out, b, count as u64, write);
+        let a = put_text(out, at, b", first ", write);
+        return a + put_number(out, at + a, count as u64, write);
     }
-    at
+    0
 }
 
 // The examples, with a comma and a space between.
 fn put_numbers(out: &mut [u8], at: usize, report: PositionMismatch, write: bool) -> usize
     requires { ⌜ (at ≤ 200) × (report .count ≤ mostReported) ⌝ }
-    ensures { λ r. ⌜ (r ≡ at + length (numbersOf report)) × (now (out .exit) ≡ stored write (now (out .entry)) at (numbersOf report)) ⌝ }
+    ensures { λ r. ⌜ (r ≡ length (numbersOf report)) × (now (out .exit) ≡ stored write (now (out .entry)) at (numbersOf report)) × (r ≤ 352) ⌝ }
 {
     let count = report.count;
     let examples = report.examples;
     if count == 0 {
-        return at;
+        return 0;
     }
-    let mut to = put_number(out, at, examples[0], write);
+    let mut n = put_number(out, at, examples[0], write);
     let mut i: usize = 1;
     while i < count {
         let p = examples[i];
-        to = put_later(out, to, p, write);
+        n += put_later(out, at + n, p, write);
         i += 1;
     }
-    to
+    n
 }
 
 fn put_later(out: &mut [u8], at: usize, p: u64, write: bool) -> usize
     requires { ⌜ at ≤ 1000 ⌝ }
-    ensures { λ r. ⌜ (r ≡ at + length (44 ∷ 32 ∷ decimal p)) × (now (out .exit) ≡ stored write (now (out .entry)) at (44 ∷ 32 ∷ decimal p)) ⌝ }
+    ensures { λ r. ⌜ (r ≡ length (44 ∷ 32 ∷ decimal p)) × (now (out .exit) ≡ stored write (now (out .entry)) at (44 ∷ 32 ∷ decimal p)) × (r ≤ 22) ⌝ }
 {
-    let b = put_text(out, at, b", ", write);
-    put_number(out, b, p, write)
-}
-
-// The place after a number's decimal digits.
-fn put_number(out: &mut [u8], at: usize, n: u64, write: bool) -> usize
-    requires { ⌜ at ≤ 2000 ⌝ }
-    ensures { λ r. ⌜ (r ≡ at + length (decimal n)) × (now (out .exit) ≡ stored write (now (out .entry)) at (decimal n)) ⌝ }
-{
-    at + lent_text::put_number(out, at, n, write)
-}
-
-// The place after a text.
-fn put_text(out: &mut [u8], at: usize, text: &[u8], write: bool) -> usize
-    requires { ⌜ (at ≤ 2000) × (length (now text) ≤ 100) ⌝ }
-    ensures { λ r. ⌜ (r ≡ at + length (now (text .entry))) × (now (out .exit) ≡ stored write (now (out .entry)) at (now (text .entry))) ⌝ }
-{
-    lent_text::put_text(out, at, text, write);
-    at + text.len()
+    let a = put_text(out, at, b", ", write);
+    a + put_number(out, at + a, p, write)
 }

@@ -1,7 +1,7 @@
 -- `listing_line` meets its contract: 6, or the line. Assumes nothing.
 use denote.Ref.{now}
 use Rattle.krl_listing.specs.Listing.{lineAt}
-use Rattle.krl_listing.proofs.Lines.{line-refused, line-answered}
+use Rattle.krl_line.proofs.Laws.{line-refused, line-answered}
 use borrow.Author.Needs.{needs}
 use Rattle.krl_listing.proofs.listing_line.Statement.{statement}
 use Rattle.krl_listing.proofs.listing_line.Tie as tie

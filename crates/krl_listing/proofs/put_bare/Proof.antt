@@ -1,9 +1,8 @@
 -- `put_bare` meets its contract. Assumes nothing.
-use Prim.Native.Nat.{_+_}
 use mathlib.Core.Path.{refl}
 use denote.Ref.{now}
-use Rattle.krl_listing.specs.Listing.{lineFeed}
-use Rattle.krl_listing.proofs.Lines.{stored-two}
+use Rattle.lent_text.proofs.Laws.{stored-two}
+use Rattle.krl_line.specs.Lines.{lineFeed}
 use borrow.Author.Needs.{needs}
 use Rattle.krl_listing.proofs.put_bare.Statement.{statement}
 use Rattle.krl_listing.proofs.put_bare.Tie as tie
@@ -13,7 +12,14 @@ returns c =
     let a = c .before .before .before .before .before .before .before .before .before .before .args in
     let t = c .before .before .before .before .before .before .put-text in
     let p = c .before .before .put in
-    stored-two (a .write) (now (a .out)) (t .last .0) (p .last .0) (t .result) (t .result + 1) (now (a .name)) lineFeed (t .ensures .1) (t .ensures .0) (p .ensures) refl
+    stored-two (a .write) (now (a .out)) (t .last .0) (p .last .0) (t .result) 1 (now (a .name)) lineFeed (t .ensures .1) (t .ensures .0) (p .ensures) refl
 
 pub put-bare-spec : {M : Type 1} → statement M
-put-bare-spec = tie.close (tie.spec (λ c κs. search needs) (λ c κs. search needs) (λ c. search needs) (λ c. search needs) returns)
+put-bare-spec =
+    tie.close
+    (tie.spec
+    (λ c κs. search needs)
+    (λ c κs. search needs)
+    (λ c. search needs)
+    (λ c. search needs)
+    returns)

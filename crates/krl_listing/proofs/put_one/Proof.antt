@@ -1,9 +1,9 @@
 -- `put_one` meets its contract. Assumes nothing.
-use Prim.Native.Nat.{_+_}
 use mathlib.Core.Path.{refl}
 use denote.Ref.{now}
-use Rattle.krl_listing.specs.Listing.{lineFeed, spacedKey}
-use Rattle.krl_listing.proofs.Lines.{stored-three}
+use Rattle.lent_text.proofs.Laws.{stored-three}
+use Rattle.key_text.specs.Text.{spacedKey}
+use Rattle.krl_line.specs.Lines.{lineFeed}
 use borrow.Author.Needs.{needs}
 use Rattle.krl_listing.proofs.put_one.Statement.{statement}
 use Rattle.krl_listing.proofs.put_one.Tie as tie
@@ -14,7 +14,7 @@ returns c =
     let t = c .before .before .before .before .before .before .before .before .before .before .put-text in
     let k = c .before .before .before .before .before .before .put-key in
     let p = c .before .before .put in
-    stored-three (a .write) (now (a .out)) (t .last .0) (k .last .0) (p .last .0) (t .result) (k .result) (k .result + 1) (now (a .name)) (spacedKey (now (a .pool)) (a .key)) lineFeed (t .ensures .1) (t .ensures .0) (k .ensures .1) (k .ensures .0) (p .ensures) refl
+    stored-three (a .write) (now (a .out)) (t .last .0) (k .last .0) (p .last .0) (t .result) (k .result) 1 (now (a .name)) (spacedKey (now (a .pool)) (a .key)) lineFeed (t .ensures .1) (t .ensures .0) (k .ensures .1) (k .ensures .0) (p .ensures) refl
 
 pub put-one-spec : {M : Type 1} → statement M
 put-one-spec =
@@ -22,6 +22,7 @@ put-one-spec =
     (tie.spec
     (λ c κs. search needs)
     (λ c κs. search needs)
+    (λ c. search needs)
     (λ c κs. search needs)
     (λ c. search needs)
     (λ c. search needs)

@@ -1,9 +1,9 @@
 -- `put_two` meets its contract. Assumes nothing.
-use Prim.Native.Nat.{_+_}
 use mathlib.Core.Path.{refl}
 use denote.Ref.{now}
-use Rattle.krl_listing.specs.Listing.{lineFeed, spacedKey}
-use Rattle.krl_listing.proofs.Lines.{stored-four}
+use Rattle.lent_text.proofs.Laws.{stored-four}
+use Rattle.key_text.specs.Text.{spacedKey}
+use Rattle.krl_line.specs.Lines.{lineFeed}
 use borrow.Author.Needs.{needs}
 use Rattle.krl_listing.proofs.put_two.Statement.{statement}
 use Rattle.krl_listing.proofs.put_two.Tie as tie
@@ -15,7 +15,7 @@ returns c =
     let k = c .before .before .before .before .before .before .before .before .before .before .put-key in
     let e = c .before .before .before .before .before .before .put-key2 in
     let p = c .before .before .put in
-    stored-four (a .write) (now (a .out)) (t .last .0) (k .last .0) (e .last .0) (p .last .0) (t .result) (k .result) (e .result) (e .result + 1) (now (a .name)) (spacedKey (now (a .pool)) (a .start)) (spacedKey (now (a .pool)) (a .end)) lineFeed (t .ensures .1) (t .ensures .0) (k .ensures .1) (k .ensures .0) (e .ensures .1) (e .ensures .0) (p .ensures) refl
+    stored-four (a .write) (now (a .out)) (t .last .0) (k .last .0) (e .last .0) (p .last .0) (t .result) (k .result) (e .result) 1 (now (a .name)) (spacedKey (now (a .pool)) (a .start)) (spacedKey (now (a .pool)) (a .end)) lineFeed (t .ensures .1) (t .ensures .0) (k .ensures .1) (k .ensures .0) (e .ensures .1) (e .ensures .0) (p .ensures) refl
 
 pub put-two-spec : {M : Type 1} → statement M
 put-two-spec =
@@ -23,7 +23,9 @@ put-two-spec =
     (tie.spec
     (λ c κs. search needs)
     (λ c κs. search needs)
+    (λ c. search needs)
     (λ c κs. search needs)
+    (λ c. search needs)
     (λ c κs. search needs)
     (λ c. search needs)
     (λ c. search needs)

@@ -1,8 +1,9 @@
 -- The proof of the cycle of calls {put_number}: the digits of a tenth, then the last. The measure is the number. Assumes nothing.
-use Prim.Native.Nat.{ℕ, _+_, _/_, _<_}
-use mathlib.Core.Path.{refl, subst}
+use Prim.Native.Nat.{ℕ, _+_, _/_, _%_, _≤_, _<_}
+use mathlib.Core.Path.{refl, ap, subst}
 use mathlib.Core.List.{_∷_, []}
 use native.Mathlib.Omega.{arith}
+use lib.ListN.{length, length-append}
 use denote.Ref.{now}
 use Rattle.lent_text.specs.Text.{decimal}
 use Rattle.lent_text.proofs.Laws.{decimal-one, decimal-many, decimal-few, stored-next}
@@ -76,7 +77,7 @@ put-number-returns : (t : ℕ) → put-number-lts.Need-returns (
   put-past-reads.Learnt,
 ) (put-number-at t) put-number.Post
 put-number-returns t c =
-    rw (decimal-one (c .before .before .before .before .before .before .before .args .n) (c .before .before .before .before .before .if1 .taken), ← c .before .before .before .digit .ensures) (refl, c .before .before .put .ensures)
+    rw (decimal-one (c .before .before .before .before .before .before .before .args .n) (c .before .before .before .before .before .if1 .taken), ← c .before .before .before .digit .ensures) (refl, c .before .before .put .ensures, omega arith)
 
 put-number-put-number-requires : (t : ℕ) → put-number-lts.Need-put-number-requires (
   digit-reads.Asked,
@@ -151,8 +152,12 @@ put-number-returns-2 : (t : ℕ) → put-number-lts.Need-returns-2 (
 put-number-returns-2 t c =
     let a = c .before .before .before .before .before .before .before .before .before .before .before .args in
     let k = c .before .before .before .before .before .before .before .put-number in
-    rw (decimal-many (a .n) (c .before .before .before .before .before .before .before .before .before .if1 .left) (omega arith), ← c .before .before .before .digit2 .ensures)
-    (stored-next (a .write) (now (a .out)) (k .last .0) (c .before .before .put-past .last .0) (a .at) (k .result) (decimal (a .n / 10)) (c .before .before .before .digit2 .result ∷ []) (k .ensures .1) (k .ensures .0) (c .before .before .put-past .ensures))
+    let more = decimal-many (a .n) (c .before .before .before .before .before .before .before .before .before .if1 .left) (omega arith) in
+    let few : k .result + 1 ≤ 20 =
+    omega (arith, k .ensures .0, ap length more, length-append (decimal (a .n / 10)) ((48 + a .n % 10) ∷ []), decimal-few (a .n))
+    in
+    let two = stored-next (a .write) (now (a .out)) (k .last .0) (c .before .before .put-past .last .0) (a .at) (k .result) 1 (decimal (a .n / 10)) (c .before .before .before .digit2 .result ∷ []) (k .ensures .1) (k .ensures .0) (c .before .before .put-past .ensures) refl in
+    rw (more, ← c .before .before .before .digit2 .ensures) (two .0, two .1, few)
 
 pub +put-number-spec : {M : Type 1} → statement M
 +put-number-spec = close μ-put-number λ t. put-number-lts.spec (

@@ -35,7 +35,7 @@ returns : tie.Need-returns Inv-loop μ-loop
 returns c =
     let l = c .before .loop in
     let a = c .before .before .before .before .args in
-    sym (text-done (a .write) (l .out) (now (a .text)) (a .at + l .i) (l .i) (c .loop-test .left)) ∙ l .inv .2
+    (refl, sym (text-done (a .write) (l .out) (now (a .text)) (a .at + l .i) (l .i) (c .loop-test .left)) ∙ l .inv .2)
 
 pub put-text-spec : {M : Type 1} → statement M
 put-text-spec =

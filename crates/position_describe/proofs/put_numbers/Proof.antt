@@ -1,44 +1,44 @@
--- `put_numbers` meets its contract. The invariant: the place, and the bytes, with what is left of the examples are those of the start of the loop.
+-- `put_numbers` meets its contract. The invariant: the count, and the bytes, with what is left of the examples are those of the start of the loop.
 -- The measure is how many are left. Assumes nothing.
 use Prim.Native.Nat.{_+_, _-_, _*_, _≤_}
 use mathlib.Core.Path.{_≡_, refl, sym, _∙_}
 use native.Mathlib.Omega.{arith}
-use lib.ListN.{length, getD}
+use lib.ListN.{length}
 use denote.Ref.{now}
 use Rattle.position_report.specs.Reports.{mostReported}
 use Rattle.lent_text.specs.Text.{stored}
-use Rattle.lent_text.proofs.Laws.{decimal-few, stored-none}
+use Rattle.lent_text.proofs.Laws.{stored-none}
 use Rattle.position_describe.proofs.Laws.{numbers-none, leftOf, left-turn, left-whole}
 use borrow.Author.Needs.{needs}
 use Rattle.position_describe.proofs.put_numbers.Statement.{statement}
 use Rattle.position_describe.proofs.put_numbers.Tie as tie
 
 abbrev Inv-loop : tie.InvT-loop
-Inv-loop out₀ at write count examples to₀ i₀ out to i =
-    (i ≤ count) × (length out ≡ length out₀) × (to ≤ 200 + 22 * i) × (count ≤ mostReported) × (count ≤ length examples)
-    × (to + length (leftOf examples count i) ≡ to₀ + length (leftOf examples count 1))
-    × (stored write out to (leftOf examples count i) ≡ stored write out₀ to₀ (leftOf examples count 1))
+Inv-loop out₀ at write count examples n₀ i₀ out n i =
+    (i ≤ count) × (length out ≡ length out₀) × (n ≤ 22 * i) × (count ≤ mostReported) × (count ≤ length examples)
+    × (n + length (leftOf examples count i) ≡ n₀ + length (leftOf examples count 1))
+    × (stored write out (at + n) (leftOf examples count i) ≡ stored write out₀ (at + n₀) (leftOf examples count 1))
 
 abbrev μ-loop : tie.MeasureT-loop
-μ-loop out₀ at write count examples to₀ i₀ out to i = count - i
+μ-loop out₀ at write count examples n₀ i₀ out n i = count - i
 
 returns : tie.Need-returns Inv-loop μ-loop
 returns c =
     let a = c .before .before .before .args in
-    rw (c .if1 .taken, numbers-none (a .report .examples)) (omega arith, sym (stored-none (a .write) (now (a .out)) (a .at)))
+    rw (c .if1 .taken, numbers-none (a .report .examples)) (refl, sym (stored-none (a .write) (now (a .out)) (a .at)), omega arith)
 
 loop-holds : tie.Need-loop-holds Inv-loop μ-loop
 loop-holds c =
     let a = c .before .before .before .before .before .before .before .args in
-    (omega arith, refl, omega (arith, c .before .before .put-number .ensures .0, decimal-few (getD (a .report .examples) 0 0)), search needs, (let size : length (a .report .examples) ≡ mostReported = search needs in omega arith), refl, refl)
+    (omega arith, refl, omega (arith, c .before .before .put-number .ensures .2), search needs, (let size : length (a .report .examples) ≡ mostReported = search needs in omega arith), refl, refl)
 
 loop-again : tie.Need-loop-again Inv-loop μ-loop
 loop-again c =
     let l = c .before .before .before .before .before .loop in
     let a = c .before .before .before .before .before .before .before .before .before .before .before .before .before .args in
     let p = c .before .before .put-later in
-    let t = left-turn (a .write) (l .out) (p .last .0) (a .report .examples) (a .report .count) (l .i) (l .to) (p .result) (c .before .before .before .before .loop-test .taken) (l .inv .4) (p .ensures .0) (p .ensures .1) in
-    (omega arith, p .kept .0 ∙ l .inv .1, omega (arith, p .ensures .0, decimal-few (getD (a .report .examples) (l .i) 0)), l .inv .3, l .inv .4, t .0 ∙ l .inv .5, t .1 ∙ l .inv .6)
+    let t = left-turn (a .write) (l .out) (p .last .0) (a .report .examples) (a .report .count) (l .i) (a .at) (l .n) (p .result) (c .before .before .before .before .loop-test .taken) (l .inv .4) (p .ensures .0) (p .ensures .1) in
+    (omega arith, p .kept .0 ∙ l .inv .1, omega (arith, p .ensures .2), l .inv .3, l .inv .4, t .0 ∙ l .inv .5, t .1 ∙ l .inv .6)
 
 same-length : tie.Need-same-length Inv-loop μ-loop
 same-length c = c .before .loop .inv .1 ∙ c .before .before .before .before .put-number .kept .0
@@ -48,7 +48,8 @@ returns-2 c =
     let l = c .before .loop in
     let a = c .before .before .before .before .before .before .before .before .before .args in
     let f = c .before .before .before .before .put-number in
-    left-whole (a .write) (now (a .out)) (f .last .0) (l .out) (a .report) (a .at) (f .result) (l .to) (l .i) (omega arith) (l .inv .4) (c .loop-test .left) (f .ensures .0) (f .ensures .1) (l .inv .5) (l .inv .6)
+    let all = left-whole (a .write) (now (a .out)) (f .last .0) (l .out) (a .report) (a .at) (f .result) (l .n) (l .i) (omega arith) (l .inv .4) (c .loop-test .left) (f .ensures .0) (f .ensures .1) (l .inv .5) (l .inv .6) in
+    (all .0, all .1, omega arith)
 
 pub put-numbers-spec : {M : Type 1} → statement M
 put-numbers-spec =
@@ -62,7 +63,9 @@ put-numbers-spec =
     loop-holds
     (λ c. search needs)
     (λ c. search needs)
+    (λ c. search needs)
     (λ c κs. search needs)
+    (λ c. search needs)
     (λ c. search needs)
     (λ c. search needs)
     loop-again

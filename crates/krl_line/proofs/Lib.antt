@@ -1,0 +1,3 @@
+pub mod Laws
+mod Examples
+pub mod Apart

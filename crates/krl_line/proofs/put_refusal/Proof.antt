@@ -1,0 +1,33 @@
+-- `put_refusal` meets its contract. Assumes nothing.
+use mathlib.Core.Path.{refl}
+use denote.Ref.{now}
+use Rattle.lent_text.specs.Text.{spacedNumber}
+use Rattle.krl_line.specs.Lines.{lineFeed, refusedWord, placeText}
+use Rattle.lent_text.proofs.Laws.{stored-four}
+use borrow.Author.Needs.{needs}
+use Rattle.krl_line.proofs.put_refusal.Statement.{statement}
+use Rattle.krl_line.proofs.put_refusal.Tie as tie
+
+returns : tie.Need-returns
+returns c =
+    let a = c .before .before .before .before .before .before .before .before .before .before .before .before .before .before .before .before .before .before .args in
+    let t = c .before .before .before .before .before .before .before .before .before .before .before .before .before .before .put-text in
+    let n = c .before .before .before .before .before .before .before .before .before .before .put-spaced in
+    let s = c .before .before .before .before .before .before .put-place in
+    let p = c .before .before .put in
+    stored-four (a .write) (now (a .out)) (t .last .0) (n .last .0) (s .last .0) (p .last .0) (t .result) (n .result) (s .result) 1 refusedWord (spacedNumber (a .number)) (placeText (a .number) (a .side) (a .index)) lineFeed (t .ensures .1) (t .ensures .0) (n .ensures .1) (n .ensures .0) (s .ensures .1) (s .ensures .0) (p .ensures) refl
+
+pub put-refusal-spec : {M : Type 1} → statement M
+put-refusal-spec =
+    tie.close
+    (tie.spec
+    (λ c. search needs)
+    (λ c κs. search needs)
+    (λ c κs. search needs)
+    (λ c. search needs)
+    (λ c κs. search needs)
+    (λ c. search needs)
+    (λ c κs. search needs)
+    (λ c. search needs)
+    (λ c. search needs)
+    returns)
