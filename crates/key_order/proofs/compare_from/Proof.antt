@@ -1,7 +1,7 @@
 -- `key_order::compare_from` meets its contract. The loop's invariant: the order asked for is that of what is left of the keys at `i`.
 -- The measure is what is left of `a`. Assumes nothing.
-use Prim.Native.Nat.{_≤_, _-_}
-use mathlib.Core.Path.{_≡_, _∙_}
+use Prim.Native.Nat.{_≤_, _<_, _-_}
+use mathlib.Core.Path.{_≡_, sym, _∙_}
 use borrow.Author.Needs.{needs}
 use lib.ListN.{length, drop}
 use Rattle.key_order.specs.declared.Ordering.the-variants.{Less, Greater}
@@ -34,7 +34,11 @@ loop-again c = (search needs, search needs, c .before .before .before .before .b
 
 -- a has ended and b has not
 returns-4 : tie.Need-returns-4 Inv-loop μ-loop
-returns-4 c = search (c .before .before .loop .inv .2, first-ends, needs)
+returns-4 c =
+    let at = c .before .before in
+    let args = at .before .args in
+    let more : at .loop .i < length (args .b .now) = c .if4 .taken in
+    sym (at .loop .inv .2 ∙ first-ends (args .a .now) (args .b .now) (at .loop .i) (c .before .loop-test .left) more)
 
 -- both have ended
 returns-5 : tie.Need-returns-5 Inv-loop μ-loop
