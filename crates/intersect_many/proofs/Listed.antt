@@ -1,12 +1,10 @@
 -- Converted lists as words, read back: the items that were written, their intervals, and that the check accepts them. Assumes nothing.
-use Prim.Native.Nat.{ℕ, suc, _+_, _*_, _/_, _%_, _≤_}
+use Prim.Native.Nat.{ℕ, _+_, _/_, _%_, _≤_}
 use mathlib.Core.Path.{_≡_, refl, ap, ap₂, _∙_}
 use mathlib.Core.Bool.{false, cond}
-use mathlib.Core.List.{List, [], _∷_, _++_, append-nil, map, map-append}
-use native.Mathlib.Nat.{add-zero}
+use mathlib.Core.List.{List, [], _∷_, append-nil, map, map-append}
 use native.Mathlib.Omega.{arith}
-use lib.ListN.{length, length-append}
-use lib.Seq.{getD-append-add}
+use lib.ListN.{length}
 use borrow.Author.Tests.{lt-ltb}
 use Rattle.key_order.specs.declared.Ordering.{Ordering}
 use Rattle.key_order.specs.declared.Ordering.the-variants.{Less, Equal, Greater}
@@ -14,7 +12,6 @@ use Rattle.key_order.specs.Order.{compareKeys, isEqual}
 use Rattle.key_order.proofs.Laws.{compare-equal}
 use Rattle.key_order.proofs.Line.{size}
 use Rattle.query_item.specs.declared.KeyAt.{KeyAt}
-use Rattle.query_item.specs.declared.ItemWords.{ItemWords}
 use Rattle.query_item.specs.declared.QueryItem.{QueryItem}
 use Rattle.query_item.specs.declared.QueryItem.the-variants.{
   Key,
@@ -32,7 +29,7 @@ use Rattle.query_item.specs.declared.RangeSetItem.{RangeSetItem}
 use Rattle.query_item.specs.declared.RangeSetItem.the-variants.{UnboundedStart, UnboundedEnd, Inclusive, ExclusiveStart, ExclusiveEnd}
 use Rattle.query_item.specs.declared.RangeSet.{RangeSet}
 use Rattle.query_item.specs.declared.MaybeItem.the-variants.{Item}
-use Rattle.query_item.specs.Items.{bytesOf, itemSize, itemAt, itemsFrom, queryItem, wordsOf, flat}
+use Rattle.query_item.specs.Items.{bytesOf, itemSize, queryItem, wordsOf}
 use Rattle.query_item.specs.Boundaries.{fromTo, toRangeSet, rangeOf, itemBetween, toQueryItem}
 use Rattle.query_item.proofs.Laws.{rankIn, less-rank, whole-upright}
 use Rattle.item_check.specs.Checks.{mostItems, malformed, outside, uprightFault, itemsOf}

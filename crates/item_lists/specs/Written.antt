@@ -18,7 +18,7 @@ abbrev pub asItems : MaybeItem → List QueryItem
 asItems NoItem = []
 asItems (Item q) = q ∷ []
 
--- 01 change.1: items as they are written: with no wrapper
+-- 01 m3.7, change.1: items as they are written: wrappers are dropped
 abbrev pub plain : List QueryItem → List ItemWords
 plain Q = map (wordsOf 0) Q
 

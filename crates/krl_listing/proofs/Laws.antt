@@ -23,7 +23,7 @@ use Rattle.query_item.specs.declared.QueryItem.the-variants.{
   RangeAfterToInclusive,
 }
 use Rattle.query_item.specs.Items.{bytesOf, queryItem, itemAt, itemsFrom}
-use Rattle.item_check.specs.Checks.{Answer, answered, mostKey}
+use Rattle.item_check.specs.Checks.{answered, mostKey}
 use Rattle.intersect_many.specs.declared.ManyCounts.{ManyCounts}
 use Rattle.lent_text.specs.Text.{spacedNumber}
 use Rattle.lent_text.proofs.Laws.{decimal-few}

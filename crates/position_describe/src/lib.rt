@@ -3,7 +3,7 @@
 //
 // The text is walked twice, first to count its bytes and then, where there is room, to write them: `write` says which.
 ghost use mathlib.Core.Path.{_≡_};
-ghost use mathlib.Core.List.{_∷_, []};
+ghost use mathlib.Core.List.{_∷_};
 ghost use Prim.Native.Nat.{_≤_};
 ghost use lib.ListN.{length};
 ghost use Rattle.position_describe.specs.Text.{firstPart, numbersOf, textOf, describedOf, describeAnswer, describedIn, refusedWith};
