@@ -104,7 +104,7 @@ uint64_t fernsponge_invert(uint32_t kind, bool is_start, uint32_t *inverted);
 uint64_t fernsponge_to_range_set(const uint8_t *pool, size_t pool_length, const uint32_t item[FERNSPONGE_ITEM_WORDS],
                                  uint32_t range[FERNSPONGE_ITEM_WORDS]);
 
-/* The item of two boundaries, which may be missing. */
+/* The item of two boundaries, which may be missing. An unbounded one has no key: its words are 0. */
 uint64_t fernsponge_to_query_item(const uint8_t *pool, size_t pool_length, const uint32_t range[FERNSPONGE_ITEM_WORDS],
                                   uint32_t item[FERNSPONGE_MAYBE_WORDS]);
 

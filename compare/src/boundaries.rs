@@ -39,6 +39,16 @@ pub fn boundaries_of(set: Words, pool: &[u8]) -> Option<[Boundary<'_>; 2]> {
     ])
 }
 
+/// The same six words, the key words of an unbounded boundary 0.
+pub fn bare(set: Words) -> Words {
+    let key = |kind: u32, key: [u32; 2]| match kind {
+        UNBOUNDED_START | UNBOUNDED_END => [0, 0],
+        _ => key,
+    };
+    let [start, end] = [key(set[0], [set[2], set[3]]), key(set[1], [set[4], set[5]])];
+    [set[0], set[1], start[0], start[1], end[0], end[1]]
+}
+
 /// What the Rust answers.
 pub mod rust {
     use super::*;

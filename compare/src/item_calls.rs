@@ -1,7 +1,7 @@
 //! Module 2: our calls on boundaries, items and keys, on all short ones and on random ones, accepted and refused.
 
 use crate::{
-    boundaries::{all_boundaries, boundaries_of, paper, rust, Boundary},
+    boundaries::{all_boundaries, bare, boundaries_of, paper, rust, Boundary},
     calls::{place, Calls, MARK},
     fernsponge, hexadecimal,
     inputs::{damage_word, even_pools, limit_keys, plain_items, Pool, KEY_LENGTHS},
@@ -74,8 +74,9 @@ impl All {
                 // in a pool that holds the two keys, and in one where both are the first
                 let pool = [&[0x7F], x.1, y.1].concat();
                 let (a, b) = (x.1.len() as u32, y.1.len() as u32);
-                self.query_item(&pool, [x.0, y.0, 1, a, 1 + a, b]);
-                self.query_item(&pool, [x.0, y.0, 1, a, 1, a]);
+                for set in [[x.0, y.0, 1, a, 1 + a, b], [x.0, y.0, 1, a, 1, a]] {
+                    self.query_item(&pool, bare(set));
+                }
             }
         }
         for kind in [0, 1, 2, 3, 4, 5, u32::MAX] {
@@ -169,7 +170,7 @@ impl All {
                     for kind in 0..25 {
                         let (x, y) = (kind / 5, kind % 5);
                         let set = [x, y, a[0], a[1], b[0], b[1]];
-                        self.query_item(pool, set);
+                        self.query_item(pool, bare(set));
                         if let Some([x, y]) = boundaries_of(set, pool) {
                             self.compare(x, y);
                         }
@@ -189,7 +190,7 @@ impl All {
         let mut words = x;
         let [a, b] = [pool.key(random), pool.key(random)];
         let [left, right] = [random.below(5) as u32, random.below(5) as u32];
-        let mut set = [left, right, a[0], a[1], b[0], b[1]];
+        let mut set = bare([left, right, a[0], a[1], b[0], b[1]]);
         if let Some([x, y]) = boundaries_of(set, bytes) {
             self.compare(x, y);
         }

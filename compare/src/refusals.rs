@@ -1,7 +1,7 @@
 //! What document 01 refuses, and in which order, read as plainly as can be. The Rust refuses none of this.
 
 use crate::{
-    boundaries::{paper, Boundary, EXCLUSIVE_END, UNBOUNDED_END, UNBOUNDED_START},
+    boundaries::{bare, paper, Boundary, EXCLUSIVE_END},
     items::{has_end, has_start, keys, same, six, Words},
 };
 
@@ -59,13 +59,15 @@ pub fn item(pool: &[u8], item: Words) -> Checked<()> {
     }
 }
 
-/// Two boundaries in a pool: the pool, the kinds, then 2. An unbounded one has no key, and its words are not read.
+/// Two boundaries in a pool: the pool, the kinds, then the words of a key that an unbounded one does not have, then 2.
 pub fn set(pool: &[u8], words: Words) -> Checked<()> {
     self::pool(pool)?;
     kinds(&words[..2])?;
-    let bounded = |kind: u32| kind != UNBOUNDED_START && kind != UNBOUNDED_END;
-    let start_out = bounded(words[0]) && key_out(pool, words[2], words[3]);
-    let end_out = bounded(words[1]) && key_out(pool, words[4], words[5]);
+    if words != bare(words) {
+        return refuse(1, 0, 0);
+    }
+    let start_out = key_out(pool, words[2], words[3]);
+    let end_out = key_out(pool, words[4], words[5]);
     match start_out || end_out {
         true => refuse(2, 0, 0),
         false => Ok(()),

@@ -69,7 +69,7 @@ pub fn compare_boundaries(left: BoundaryKind, a: &[u8], right: BoundaryKind, b: 
     ordering(order.into())
 }
 
-/// A boundary: its kind, and its key in the pool. An unbounded one's key is not read.
+/// A boundary: its kind, and its key in the pool. An unbounded one has no key: offset and length are 0.
 #[derive(Clone, Copy, Debug, PartialEq, Eq, Hash)]
 pub struct Boundary {
     /// What it is.
@@ -107,7 +107,8 @@ pub fn to_range_set(pool: &[u8], item: Item) -> Result<RangeSet, Refusal> {
     })
 }
 
-/// The item of two boundaries, where there is one. From a key to the same bytes, both held, is the key itself.
+/// The item of two boundaries, where there is one. From a key to the same bytes, both held, is the key itself. An unbounded boundary with
+/// a key is refused with 1.
 ///
 /// ```
 /// use fernsponge::{to_query_item, to_range_set, Item, Pool};

@@ -64,6 +64,36 @@ fn no_item_of_two_boundaries() {
 }
 
 #[test]
+fn an_unbounded_boundary_has_no_key() {
+    use BoundaryKind::*;
+    let set = |start, a, end, b| RangeSet {
+        start: Boundary {
+            kind: start,
+            key: a,
+        },
+        end: Boundary { kind: end, key: b },
+    };
+    let key = |offset, length| KeyAt { offset, length };
+    let full = set(UnboundedStart, key(0, 0), UnboundedEnd, key(0, 0));
+    assert_eq!(
+        to_query_item(&pool(), full),
+        Ok(Some(Item::from(QueryItem::RangeFull)))
+    );
+    for word in [key(0, 1), key(1, 0)] {
+        for range in [
+            set(UnboundedStart, word, Inclusive, at(1)),
+            set(Inclusive, at(1), UnboundedEnd, word),
+        ] {
+            let refusal = to_query_item(&pool(), range).unwrap_err();
+            assert_eq!(
+                (refusal.reason(), refusal.side, refusal.index),
+                (Reason::Malformed, Side::Ours, 0)
+            );
+        }
+    }
+}
+
+#[test]
 fn boundaries() {
     use BoundaryKind::*;
     assert_eq!(Inclusive.invert(true), ExclusiveStart);

@@ -1,7 +1,7 @@
 -- A number of the C interface stands for one answer alone, and what is written is read back. Assumes nothing.
 use Prim.Native.Nat.{ℕ, zero, suc, _≤_, _<_}
 use mathlib.Core.Path.{_≡_, refl}
-use mathlib.Core.Bool.{true}
+use mathlib.Core.Bool.{true, false, _&&_}
 use native.Mathlib.Omega.{arith}
 use borrow.Author.Tests.{leb-true}
 use Rattle.key_order.specs.declared.Ordering.{Ordering}
@@ -11,9 +11,11 @@ use Rattle.query_item.specs.declared.RangeSetItem.the-variants.{UnboundedStart,
 use Rattle.query_item.specs.declared.RangeSet.{RangeSet}
 use Rattle.query_item.specs.Boundaries.{kindOf, keyOf, withKey}
 use Rattle.range_borrowed.specs.Kinds.{kindNumber, kindNumbered}
+use Rattle.item_check.specs.Checks.{accepted, written}
 -- the kind of a kind's number is that kind
 pub use Rattle.range_borrowed.proofs.Laws.{kind-of-number}
-use Rattle.fernsponge.specs.Answers.{orderNumber, isKind, setWords, setOfWords, mostIndex, refusalNumber}
+use Rattle.fernsponge.specs.Answers.{orderNumber, isKind, isUnbounded, setWords, setOfWords, mostIndex, refusalNumber}
+use Rattle.fernsponge.specs.Calls.{setWordsVerdict}
 
 pub order-number-apart : (o p : Ordering) → orderNumber o ≡ orderNumber p → o ≡ p
 order-number-apart Less Less e = refl
@@ -46,6 +48,25 @@ with-own-key (ExclusiveEnd k) = refl
 pub set-of-own-words : (s : RangeSet) → setOfWords (setWords s) ≡ s
 unfolding setOfWords setWords
 set-of-own-words s = rw (with-own-key (s .start), with-own-key (s .end))
+
+kind-own : (x : RangeSetItem) → isKind (kindNumber (kindOf x)) ≡ true
+kind-own UnboundedStart = refl
+kind-own UnboundedEnd = refl
+kind-own (Inclusive k) = refl
+kind-own (ExclusiveStart k) = refl
+kind-own (ExclusiveEnd k) = refl
+
+key-own : (x : RangeSetItem) → isUnbounded (kindNumber (kindOf x)) && written (keyOf x) ≡ false
+key-own UnboundedStart = refl
+key-own UnboundedEnd = refl
+key-own (Inclusive k) = refl
+key-own (ExclusiveStart k) = refl
+key-own (ExclusiveEnd k) = refl
+
+-- and their words are not refused
+pub own-words-taken : (s : RangeSet) → setWordsVerdict (setWords s) ≡ accepted
+unfolding setWords
+own-words-taken s = rw (kind-own (s .start), kind-own (s .end), key-own (s .start), key-own (s .end))
 
 -- two refusals have two numbers, and none has that of acceptance
 module _ {number side index number′ side′ index′ : ℕ} where

@@ -31,10 +31,14 @@ boolNumber b = cond b 1 0
 abbrev pub isKind : ℕ → Bool
 isKind n = leb n 4
 
+-- those of the two that have no key
+abbrev pub isUnbounded : ℕ → Bool
+isUnbounded n = leb n 1
+
 -- ---- six words, and seven (01 keys.3, change.2)
 
 -- two boundaries as six words, laid out as an item's: the kinds of start and end for code and wrapper, then both keys.
--- The key words of an unbounded one are written as 0, and not read
+-- The key words of an unbounded one are 0
 
 unfoldable pub setWords : RangeSet → ItemWords
 setWords s = itemWords (kindNumber (kindOf (s .start))) (kindNumber (kindOf (s .end))) (keyOf (s .start)) (keyOf (s .end))

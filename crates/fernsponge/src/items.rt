@@ -1,6 +1,6 @@
 // Module 2. A kind of a boundary is a number, 0 UnboundedStart, 1 UnboundedEnd, 2 Inclusive, 3 ExclusiveStart, 4 ExclusiveEnd, and any
 // other is refused with 1. An item is six words, and two boundaries are six words too: the kinds of start and end stand for code and
-// wrapper, and the words of an unbounded one's key are not read.
+// wrapper, and the words of an unbounded one's key are 0: others are refused with 1.
 ghost use mathlib.Core.Path.{_≡_};
 ghost use Rattle.query_item.specs.Items.{itemAt};
 ghost use Rattle.item_check.specs.Checks.{checkVerdict};
@@ -13,6 +13,7 @@ use crate::numbers::MAYBE_SIZE;
 use crate::numbers::bool_number;
 use crate::numbers::containment_numbers;
 use crate::numbers::is_kind;
+use crate::numbers::is_malformed_set;
 use crate::numbers::maybe_numbers;
 use crate::numbers::order_number;
 use crate::numbers::refusal_number;
@@ -104,10 +105,10 @@ pub extern "C" fn fernsponge_to_query_item(
     ensures { λ _. ⌜ now (item .exit) ≡ left maybeNumbers (betweenAnswer (now (pool .entry)) (itemAt (now (range .entry)) 0)) (now (item .entry)) ⌝ }
 {
     let words = item_at(range, 0);
-    if is_kind(words.code) & is_kind(words.wrapper) {
-        return give_item(to_query_item(pool, set_of_words(words)), item);
+    if is_malformed_set(words) {
+        return MALFORMED;
     }
-    MALFORMED
+    give_item(to_query_item(pool, set_of_words(words)), item)
 }
 
 fn give_item(answer: ItemAnswer, item: &mut [u32; MAYBE_SIZE]) -> u64

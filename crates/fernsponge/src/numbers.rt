@@ -2,8 +2,10 @@
 ghost use mathlib.Core.Path.{_≡_};
 ghost use mathlib.Core.List.{_∷_};
 ghost use Rattle.query_item.specs.Items.{flat};
-ghost use Rattle.fernsponge.specs.Answers.{orderNumber, boolNumber, isKind, refusalNumber, setNumbers, setOfWords, maybeNumbers, containmentNumbers};
+ghost use Rattle.fernsponge.specs.Answers.{orderNumber, boolNumber, isKind, isUnbounded, refusalNumber, setNumbers, setOfWords, maybeNumbers, containmentNumbers};
+ghost use Rattle.fernsponge.specs.Calls.{malformedSet};
 use item_check::Refusal;
+use item_check::is_written;
 use item_words::ITEM_SIZE;
 use item_words::words_of;
 use key_order::Ordering;
@@ -49,6 +51,12 @@ pub(crate) fn is_kind(n: u32) -> bool
     n <= 4
 }
 
+fn is_unbounded(n: u32) -> bool
+    ensures { λ r. ⌜ r ≡ isUnbounded n ⌝ }
+{
+    n <= 1
+}
+
 pub(crate) fn refusal_number(refusal: Refusal) -> u64
     ensures { λ r. ⌜ r ≡ refusalNumber (refusal .number) (refusal .side) (refusal .index) ⌝ }
 {
@@ -73,6 +81,18 @@ pub(crate) fn set_numbers(set: RangeSet) -> [u32; ITEM_SIZE]
         end.offset,
         end.length,
     ]
+}
+
+// A kind that is none, or key words of an unbounded boundary that are not 0.
+pub(crate) fn is_malformed_set(words: ItemWords) -> bool
+    ensures { λ r. ⌜ r ≡ malformedSet words ⌝ }
+{
+    let a = words.start;
+    let b = words.end;
+    !is_kind(words.code)
+        | !is_kind(words.wrapper)
+        | (is_unbounded(words.code) & is_written(a))
+        | (is_unbounded(words.wrapper) & is_written(b))
 }
 
 pub(crate) fn set_of_words(words: ItemWords) -> RangeSet

@@ -5,6 +5,7 @@ use mathlib.Core.List.{List, [], _∷_}
 use native.Mathlib.Omega.{arith}
 use Rattle.intervals.specs.Lists.{meetsOf, sharedOf, cutsOf, withoutOf}
 use Rattle.intervals.specs.Intervals.{Interval, Strict, Canonical, inside, holds, piece, meet, shared, cut, without}
+use Rattle.intervals.specs.Cover.{growOf, coverOf, cover, coverAll}
 use Rattle.intervals.proofs.Laws.{sweepFrom, sweepOf, stripFrom, stripOf, sweep, strip, joinFrom, join}
 
 abbrev left : List Interval
@@ -51,3 +52,17 @@ strip-left-right = refl
 join-left : join left ≡ (0, 20) ∷ (30, 40) ∷ []
 unfolding join joinFrom
 join-left = refl
+
+-- a range takes in those that it touches, as at 12, and a range that is none changes nothing
+cover-right : cover right 10 12 ≡ (5, 14) ∷ (18, 33) ∷ []
+unfolding cover coverOf growOf
+cover-right = refl
+
+cover-nothing : cover right 11 11 ≡ right
+unfolding cover coverOf growOf
+cover-nothing = refl
+
+-- in any order
+cover-all-left : coverAll ((30, 40) ∷ (10, 20) ∷ (7, 3) ∷ (0, 10) ∷ []) ≡ (0, 20) ∷ (30, 40) ∷ []
+unfolding coverAll cover coverOf growOf
+cover-all-left = refl

@@ -1,18 +1,22 @@
 -- Each law that a caller cites, in the order of specs/. Those over things of any type, and those of pieces and of `++`, are
 -- stated in the files that the `pub use` lines name, and passed on. No contract cites this file. Assumes nothing.
-use Prim.Native.Nat.{ℕ}
-use mathlib.Core.Path.{_≡_, refl, sym}
-use mathlib.Core.Bool.{_&&_, not, and-true, and-or-distrib-right}
+use Prim.Native.Nat.{ℕ, suc, _≤_}
+use mathlib.Core.Path.{_≡_, refl, sym, _∙_}
+use mathlib.Core.Bool.{_&&_, _||_, not, and-true, and-or-distrib-right}
 use mathlib.Core.List.{List, [], _∷_}
+use native.Mathlib.Decide.{decLt}
 use native.Mathlib.Omega.{arith}
+use lib.ListN.{length}
 use Rattle.intervals.specs.Lists.{sharedOf, withoutOf}
 use Rattle.intervals.specs.Intervals.{Interval, Above, Strict, Canonical, inside, holds, shared, without}
+use Rattle.intervals.specs.Cover.{cover, coverAll}
 use Rattle.intervals.proofs.Pieces.{meets, cuts}
 use Rattle.intervals.proofs.Ordered.{apart→above, shared-above, without-above}
 use Rattle.intervals.proofs.Algebra.{meets-shared, shared-cons, without-cuts}
-use Rattle.intervals.proofs.Members.{holds-meets, holds-cuts, and-nor, either-way, never-both}
+use Rattle.intervals.proofs.Members.{holds-meets, holds-cuts, and-nor, either-way, never-both, below, in-it, past, where-is, inside-below, inside-past}
 use Rattle.intervals.proofs.Unique.{apart-unique}
 use Rattle.intervals.proofs.Joined.{holds-join-from, join-from-apart}
+use Rattle.intervals.proofs.Covers.{holds-cover-of, cover-of-apart, length-cover-of}
 use Rattle.intervals.proofs.Passes.{interval-above, meeting, cutting}
 pub use Rattle.intervals.proofs.Lists.{meets-append, shared-append, shared-nil}
 pub use Rattle.intervals.proofs.Lists.{cuts-append, without-append, without-nil}
@@ -21,11 +25,13 @@ unfoldable pub use Rattle.intervals.proofs.Sweeps.{sweepFrom, sweepOf, 
 pub use Rattle.intervals.proofs.Sweeps.{AboveOf, BelowOf, Spanned, Meeting, Cutting}
 pub use Rattle.intervals.proofs.Sweeps.{sweep-first, sweep-second, sweep-nil, sweep-is-shared, sweep-skip}
 pub use Rattle.intervals.proofs.Sweeps.{strip-first, strip-second, strip-nil, strip-is-without, strip-skip, above-le}
+pub use Rattle.intervals.proofs.Ordered.{apart-weaken}
 pub use Rattle.intervals.proofs.Pieces.{piece-some, piece-none}
 pub use Rattle.intervals.proofs.Members.{holds-append, holds-piece, Parts}
 pub use Rattle.intervals.proofs.Passes.{sweep, strip}
 pub use Rattle.intervals.proofs.Joined.{Rising}
 unfoldable pub use Rattle.intervals.proofs.Joined.{joinFrom, join}
+pub use Rattle.intervals.proofs.Covers.{grow-stop, grow-more, cover-skip, cover-here, cover-some, cover-none}
 
 -- ---- strict and canonical lists
 
@@ -110,3 +116,46 @@ pub holds-join : (A : List Interval) → Rising 0 A → (x : ℕ) → holds (joi
 unfolding join holds
 holds-join [] h x = refl
 holds-join (a ∷ A) h x = holds-join-from (a .0) (a .0) (a .1) A x (omega arith) (h .2)
+
+-- ---- one more range covered
+
+pub cover-canonical : (A : List Interval) (s e : ℕ) → Canonical A → Canonical (cover A s e)
+cover-canonical A s e hA = elim (decLt s e) [
+  | yes h ↦ rw (cover-some A s e h) (cover-of-apart 0 A s e (omega arith) h hA)
+  | no h ↦ rw (cover-none A s e (omega arith)) hA
+]
+
+-- what was held or lies in the range, and no more
+pub holds-cover : (A : List Interval) (s e x : ℕ) → Canonical A → holds (cover A s e) x ≡ inside s e x || holds A x
+holds-cover A s e x hA = elim (decLt s e) [
+  | yes h ↦ rw (cover-some A s e h) (holds-cover-of 0 A s e x h hA)
+  | no h ↦ rw (cover-none A s e (omega arith)) (elim (where-is s e x) [
+    | below k ↦ rw (inside-below s e x k)
+    | in-it j k ↦ absurd (omega arith)
+    | past k ↦ rw (inside-past s e x k)
+  ])
+]
+
+-- no more than one interval more
+pub length-cover : (A : List Interval) (s e : ℕ) → length (cover A s e) ≤ suc (length A)
+length-cover A s e = elim (decLt s e) [
+  | yes h ↦ rw (cover-some A s e h) (length-cover-of A s e)
+  | no h ↦ rw (cover-none A s e (omega arith)) (omega arith)
+]
+
+-- ---- ranges in any order covered one after another: canonical, and what they hold
+
+pub cover-all-canonical : (A : List Interval) → Canonical (coverAll A)
+unfolding coverAll
+cover-all-canonical [] = tt
+cover-all-canonical (a ∷ A) = cover-canonical (coverAll A) (a .0) (a .1) (cover-all-canonical A)
+
+pub holds-cover-all : (A : List Interval) (x : ℕ) → holds (coverAll A) x ≡ holds A x
+unfolding coverAll holds
+holds-cover-all [] x = refl
+holds-cover-all (a ∷ A) x = rw (holds-cover (coverAll A) (a .0) (a .1) x (cover-all-canonical A), holds-cover-all A x)
+
+-- a canonical list that holds the same is this one
+pub cover-all-unique : (A B : List Interval) → Canonical B → ((x : ℕ) → holds B x ≡ holds A x) → B ≡ coverAll A
+cover-all-unique A B hB same =
+    canonical-unique B (coverAll A) hB (cover-all-canonical A) (λ x. same x ∙ sym (holds-cover-all A x))

@@ -8,4 +8,5 @@ pub mod Algebra
 pub mod Members
 pub mod Unique
 pub mod Joined
+pub mod Covers
 mod Examples

@@ -13,6 +13,10 @@ above-le : (lo lo′ : ℕ) (A : List Interval) → lo ≤ lo′ → Above lo′
 above-le lo lo′ [] h hA = tt
 above-le lo lo′ (a ∷ A) h hA = (omega arith, hA .1, hA .2)
 
+pub apart-weaken : (lo lo′ : ℕ) (A : List Interval) → lo′ ≤ lo → Apart lo A → Apart lo′ A
+apart-weaken lo lo′ [] h a = tt
+apart-weaken lo lo′ (b ∷ A) h a = (omega arith, a .1, a .2)
+
 pub apart→above : (lo : ℕ) (A : List Interval) → Apart lo A → Above lo A
 apart→above lo [] h = tt
 apart→above lo (a ∷ A) h = (h .0, h .1, above-le (a .1) (suc (a .1)) A (omega arith) (apart→above (suc (a .1)) A (h .2)))

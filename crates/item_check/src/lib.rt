@@ -190,7 +190,8 @@ fn has_end(code: u32) -> bool
     !((code == 0) | (code == 3) | (code == 4) | (code == 7))
 }
 
-fn is_written(key: KeyAt) -> bool
+// inner: a key's two words are not both 0.
+pub fn is_written(key: KeyAt) -> bool
     ensures { λ r. ⌜ r ≡ written key ⌝ }
 {
     (key.offset != 0) | (key.length != 0)

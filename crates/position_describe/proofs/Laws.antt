@@ -9,12 +9,13 @@ use native.Mathlib.Omega.{arith}
 use lib.ListN.{length, getD, take, drop, length-append, length-take, drop-of-length-le}
 use lib.Seq.{drop-cons, getD-take}
 use borrow.Author.Tests.{lt-ltb, le-ltb}
+use Rattle.item_check.specs.Checks.{answered}
 use Rattle.item_check.proofs.Laws.{refused-apart}
 use Rattle.position_report.specs.declared.PositionMismatch.{PositionMismatch}
 use Rattle.position_report.specs.Reports.{mostReported}
 use Rattle.position_describe.specs.declared.Described.{Described}
 use Rattle.position_describe.specs.declared.Described.the-variants.{Bytes, Refused}
-use Rattle.position_describe.specs.Text.{positionsWord, firstPart, laterNumbers, numbers, numbersOf, textOf, mostText, describedOf}
+use Rattle.position_describe.specs.Text.{positionsWord, firstPart, laterNumbers, numbers, numbersOf, textOf, mostText, describeAnswer, describedOf}
 use Rattle.lent_text.specs.Text.{decimal, stored}
 use Rattle.lent_text.proofs.Laws.{decimal-few, decimal-two, stored-append, stored-none, stored-next}
 
@@ -67,6 +68,12 @@ text-most report h =
       first-few (report .total) (report .count) h,
       examples-few report h,
     )
+
+-- with room for the longest text no report with so few examples is refused
+pub described-always : (report : PositionMismatch) (room : ℕ) → report .count ≤ mostReported → mostText ≤ room
+    → describeAnswer report room ≡ answered (length (textOf report))
+described-always report room h k =
+    rw (le-ltb mostReported (report .count) h, le-ltb room (length (textOf report)) (omega (arith, text-most report h)))
 
 -- ---- the examples
 

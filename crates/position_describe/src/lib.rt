@@ -1,12 +1,13 @@
 // Module 6 of document 01: a report of positions as the Rust's text, written into lent bytes.
-// Definitions: specs/Text.antt. Laws: proofs/Laws.antt; among them that the text is never longer than MAX_TEXT.
+// Definitions: specs/Text.antt. Laws: proofs/Laws.antt; among them that the text is never longer than MAX_TEXT, and that so much room is
+// never refused.
 //
 // The text is walked twice, first to count its bytes and then, where there is room, to write them: `write` says which.
 ghost use mathlib.Core.Path.{_≡_};
 ghost use mathlib.Core.List.{_∷_};
 ghost use Prim.Native.Nat.{_≤_};
 ghost use lib.ListN.{length};
-ghost use Rattle.position_describe.specs.Text.{firstPart, numbersOf, textOf, describedOf, describeAnswer, describedIn, refusedWith};
+ghost use Rattle.position_describe.specs.Text.{firstPart, numbersOf, textOf, mostText, describedOf, describeAnswer, describedIn, refusedWith};
 ghost use Rattle.position_report.specs.Reports.{mostReported};
 ghost use Rattle.lent_text.specs.Text.{decimal, stored};
 use item_check::Refusal;
@@ -16,6 +17,13 @@ use position_report::PositionMismatch;
 
 // The longest text of a report: so many lent bytes are always room enough.
 pub const MAX_TEXT: usize = 394;
+
+// inner: so many bytes, all alike.
+pub fn text_room(byte: u8) -> [u8; MAX_TEXT]
+    ensures { λ r. ⌜ mostText ≡ length r ⌝ }
+{
+    [byte; MAX_TEXT]
+}
 
 // What `describe` answers: how many bytes it has written.
 pub enum Described {

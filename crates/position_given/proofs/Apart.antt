@@ -6,10 +6,7 @@ use mathlib.Core.List.{List, [], _∷_, _++_}
 use native.Mathlib.Omega.{arith}
 use Rattle.intervals.specs.Intervals.{Interval, Apart, holds}
 use Rattle.intervals.proofs.Members.{inside-below, inside-past}
-
-pub apart-weaken : (lo lo′ : ℕ) (A : List Interval) → lo′ ≤ lo → Apart lo A → Apart lo′ A
-apart-weaken lo lo′ [] h a = tt
-apart-weaken lo lo′ (b ∷ A) h a = (omega arith, a .1, a .2)
+use Rattle.intervals.proofs.Laws.{apart-weaken}
 
 pub apart-below : (lo : ℕ) (A : List Interval) (p : ℕ) → Apart lo A → p < lo → holds A p ≡ false
 unfolding holds

@@ -18,7 +18,8 @@ use Rattle.pairs_sort.specs.Pairs.{pairsFrom, pairs, put, pushes, Merged}
 use Rattle.pairs_sort.proofs.Laws.{pairs-length, push-length, push-pairs, push-kept}
 use Rattle.position_query.specs.Covered.{positionFault, firstFault, queryVerdict, FromQueryItems}
 use Rattle.position_given.specs.Inner.{lastWord}
-use Rattle.position_query.specs.Inner.{clipped, ranges, Wrote, Building}
+use Rattle.position_query.specs.Ranges.{clipped, ranges}
+use Rattle.position_query.specs.Inner.{Wrote, Building}
 use Rattle.key_order.proofs.Words.{Bytes}
 use Rattle.position_query.proofs.Ranges.{ranges-covered, ranges-needed}
 

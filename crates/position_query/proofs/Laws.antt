@@ -1,5 +1,5 @@
--- Each law that a caller cites, in the order of specs/: that answers are told apart, which positions an item holds, and that there is one
--- answer. No contract cites this file. Assumes nothing.
+-- Each law that a caller cites, in the order of specs/: that answers are told apart, which positions an item holds, that there is one
+-- answer, and what it is. No contract cites this file. Assumes nothing.
 use Prim.Native.Nat.{ℕ, zero, suc, _+_, _-_, _*_, _/_, _≤_, _<_}
 use mathlib.Core.Path.{_≡_, refl, sym, ap, _∙_}
 use mathlib.Core.Bool.{false}
@@ -10,16 +10,20 @@ use lib.ListN.{length, getD, drop}
 use lib.Seq.{ext-getD, getD-drop}
 use borrow.Author.Tests.{le-ltb}
 use Rattle.intervals.specs.Intervals.{Interval}
-use Rattle.intervals.proofs.Laws.{canonical-unique}
+use Rattle.intervals.specs.Intervals as interval
+use Rattle.intervals.proofs.Laws.{canonical-unique, cover-all-unique}
+use Rattle.key_order.proofs.Words.{Bytes}
 use Rattle.query_item.specs.declared.ItemWords.{ItemWords}
-use Rattle.item_check.specs.Checks.{Answer, answered, refused, itemsOf}
-use Rattle.item_check.proofs.Laws.{refused-apart}
+use Rattle.item_check.specs.Checks.{Answer, answered, refused, accepted, andThen, poolVerdict, shapeVerdict, itemsOf}
+use Rattle.item_check.proofs.Laws.{refused-apart, accepts}
 use Rattle.pairs_sort.specs.Pairs.{start, finish, pairsFrom, pairs}
 use Rattle.pairs_sort.proofs.Laws.{pairs-length}
 use Rattle.position_given.specs.Inner.{lastWord}
 use Rattle.position_query.specs.declared.Built.{Built}
 use Rattle.position_query.specs.declared.Built.the-variants as built
-use Rattle.position_query.specs.Covered.{covered, rangesNeeded, builtOf, Covers, FromQueryItems}
+use Rattle.position_query.specs.Covered.{covered, firstFault, rangesNeeded, roomVerdict, queryVerdict, buildVerdict, builtOf, asVerdict, Covers, FromQueryItems}
+use Rattle.position_query.specs.Ranges.{ranges, coveredPairs}
+use Rattle.position_query.proofs.Ranges.{ranges-covered, ranges-needed}
 pub use Rattle.position_query.proofs.Ranges.{item-held}
 
 -- ---- answers are told apart
@@ -101,3 +105,40 @@ module _ (pool ws : List ℕ) (count : ℕ) (old new new′ : List ℕ) (l : len
       let b : s ≡ s′ = cc in
       let d : i ≡ i′ = cc in
       ((λ j. refused (a j) (b j) (d j)), F .kept n s i refl ∙ sym (G .kept n′ s′ i′ refl))
+
+-- ---- the answer of `from_query_items`, computed
+
+no-fault : (pool ws : List ℕ) → queryVerdict pool ws ≡ accepted → firstFault pool 0 (itemsOf ws) ≡ accepted
+no-fault pool ws good =
+    let items = andThen (shapeVerdict ws 0) (firstFault pool 0 (itemsOf ws)) in
+    accepts (shapeVerdict ws 0) (firstFault pool 0 (itemsOf ws)) .0 (accepts (poolVerdict pool) items .0 good .1) .1
+
+module _ (pool ws : List ℕ) (count : ℕ) (B : Bytes pool) (few : count ≤ lastWord) where
+  -- pairs that are canonical and hold the positions that accepted items cover are the computed ones
+  pub covers-pairs : queryVerdict pool ws ≡ accepted → (A : List Interval) → interval.Canonical A
+      → ((p : ℕ) → interval.holds A p ≡ covered pool (itemsOf ws) count p) → A ≡ coveredPairs pool count (itemsOf ws)
+  covers-pairs good A C same =
+      cover-all-unique (ranges pool count (itemsOf ws)) A C (λ p. same p ∙ sym (ranges-covered pool B count few 0 (itemsOf ws) (no-fault pool ws good) p))
+
+  module _ (old new : List ℕ) (r : Answer ℕ) (F : FromQueryItems pool ws count old new r) where
+    -- the pairs that are written are the computed ones, and the answer is how many
+    pub written-pairs : (m : ℕ) → r ≡ answered m
+        → (m ≡ length (coveredPairs pool count (itemsOf ws))) × (pairs new m ≡ coveredPairs pool count (itemsOf ws))
+    written-pairs m e =
+        let C = F .written m e in
+        let good = accepts (queryVerdict pool ws) (roomVerdict (rangesNeeded pool count (itemsOf ws)) (length old)) .0 (sym (F .verdict) ∙ rw e) .0 in
+        let same = covers-pairs good (pairs new m) (C .canonical) (C .covers) in
+        (sym (pairs-length new m 0) ∙ ap length same, same)
+
+    -- with a pair of room for each nonempty range, accepted items are answered
+    pub pairs-answered : queryVerdict pool ws ≡ accepted → length (ranges pool count (itemsOf ws)) ≤ length old / 2
+        → r ≡ answered (length (coveredPairs pool count (itemsOf ws)))
+    pairs-answered good room = go r refl
+      where
+        go : (t : Answer ℕ) → r ≡ t → t ≡ answered (length (coveredPairs pool count (itemsOf ws)))
+        go (answered m) e = ap answered (written-pairs m e .0)
+        go (refused n s i) e =
+            let needed = ranges-needed pool B count few 0 (itemsOf ws) (no-fault pool ws good) in
+            let fits : buildVerdict pool ws count (length old) ≡ accepted =
+            rw (good, ← needed, le-ltb (length old / 2) (length (ranges pool count (itemsOf ws))) room) in
+            never {n = n} {s = s} {i = i} (sym fits ∙ sym (F .verdict) ∙ ap asVerdict e)

@@ -31,7 +31,7 @@ use Rattle.key_order.specs.Words.{be}
 use Rattle.position_key.specs.Keys.{keySize, positionKey, positionAnswer}
 use Rattle.position_query.specs.Covered.{holdsPosition, someHolds, covered, wrapped, noPosition, badKey, positionFault, firstFault, anyBelow, rangesNeeded}
 use Rattle.position_given.specs.Inner.{lastWord}
-use Rattle.position_query.specs.Inner.{afterOf, firstOf, pastOf, bothOf, rangeAnswer, clipTo, clipped, ranges}
+use Rattle.position_query.specs.Ranges.{afterOf, firstOf, pastOf, bothOf, rangeAnswer, clipTo, clipped, ranges}
 use Rattle.key_order.proofs.Words.{Bytes, be-says}
 use Rattle.position_key.proofs.Keys.{bytes-length, bytes-small, be-position}
 

@@ -1,2 +1,3 @@
 pub mod Covered
+pub mod Ranges
 pub mod Inner

@@ -1,7 +1,7 @@
 -- The rows of document 01, "Thirteen rows to prove": what is given, by the definitions that the calls promise, and the result that the document
--- states. Keys are single bytes, except the empty one of P6 and the position keys of P9. `from_query_items` promises the covered positions and
--- that its pairs are canonical, so P9 and P10 give the positions that are covered, among some that are asked; that the pairs are the stated ones
--- is proved in proofs/Written.antt. Definitions only. It serves 01 rows.1. Assumes nothing.
+-- states. Keys are single bytes, except the empty one of P6 and the position keys of P9. `from_query_items` promises canonical pairs of the
+-- covered positions; P9 and P10 give these pairs as the definition `coveredPairs` computes them, and `written-pairs` and `pairs-answered` of
+-- position_query/proofs/Laws.antt say, of every query, that it writes those. Definitions only. It serves 01 rows.1. Assumes nothing.
 use Prim.Native.Nat.{ℕ, _*_}
 use mathlib.Core.Bool.{Bool, false}
 use mathlib.Core.List.{List, [], _∷_, _++_, map}
@@ -16,6 +16,7 @@ use Rattle.query_item.specs.declared.QueryItem.{QueryItem}
 use Rattle.query_item.specs.declared.MaybeItem.{MaybeItem}
 use Rattle.query_item.specs.Items.{keyAt, absent, itemWords, wordsOf, flatAll}
 use Rattle.boundary.specs.Kinds.{boundary}
+use Rattle.intervals.specs.Intervals.{Interval}
 use Rattle.item_check.specs.Checks.{Answer, answered, refused, Verdict, itemsOf}
 use Rattle.intersect_many.specs.declared.ManyCounts.{ManyCounts}
 use Rattle.intersect.specs.declared.QueryItemIntersectionResult.{QueryItemIntersectionResult}
@@ -24,21 +25,22 @@ use Rattle.intersect.specs.Pair.{pairAnswer}
 use Rattle.intersect_many.specs.Lists.{sharedItems, onlyItems, manyAnswer}
 use Rattle.intersect_many.specs.Demand.{Shown, shown}
 use Rattle.insert.specs.Answers.{insertAnswer, listAfter}
-use Rattle.position_given.specs.Positions.{countUp}
+use Rattle.pairs_sort.specs.Pairs.{flatPairs}
 use Rattle.position_intervals.specs.Asked.{containsAnswer}
 use Rattle.position_given.specs.Inner.{lastWord}
 use Rattle.position_key.specs.Keys.{keySize}
-use Rattle.position_query.specs.Covered.{covered, queryVerdict}
+use Rattle.position_query.specs.Covered.{queryVerdict}
+use Rattle.position_query.specs.Ranges.{coveredPairs}
 use Rattle.position_report.specs.declared.PositionMismatch.{PositionMismatch}
-use Rattle.position_mismatch.specs.Reports.{keep, missingAnswer}
+use Rattle.position_mismatch.specs.Reports.{missingAnswer}
 
--- what a row gives: orders; the pair's shared part, our two leftovers and their two; the three lists; positions; yes or no; a report; the
--- list after an insertion; or a refusal
+-- what a row gives: orders; the pair's shared part, our two leftovers and their two; the three lists; pairs of positions; yes or no; a
+-- report; the list after an insertion; or a refusal
 pub data Result : Type 0 where
   orders : List Ordering → Result
   parts : List Shown → List Shown → List Shown → List Shown → List Shown → Result
   lists : List Shown → List Shown → List Shown → Result
-  positions : List ℕ → Result
+  intervals : List Interval → Result
   yesOrNo : Bool → Result
   report : PositionMismatch → Result
   list : List Shown → Result
@@ -56,7 +58,7 @@ two code a b = itemWords code 0 (keyAt a 1) (keyAt b 1)
 abbrev one : ℕ → ℕ → ItemWords
 one code a = itemWords code 0 (keyAt a 1) absent
 
-abbrev pub full : ItemWords
+abbrev full : ItemWords
 full = itemWords 3 0 absent absent
 
 -- RangeFrom of the empty key
@@ -92,14 +94,16 @@ listResult pool ours theirs (refused number side index) = refusal number side in
 abbrev listsOf : List ItemWords → List ItemWords → Result
 listsOf ours theirs = listResult digits (flatAll ours) (flatAll theirs) (manyAnswer digits (flatAll ours) (flatAll theirs) room room room)
 
--- the positions that a query covers, among those that are asked, where the checks of its items accept it
-abbrev queryResult : List ℕ → Verdict → Result
-queryResult P (answered u) = positions P
-queryResult P (refused number side index) = refusal number side index
+-- the pairs that a query makes, where the checks of its items accept it
+abbrev queryResult : List Interval → Verdict → Result
+queryResult A (answered u) = intervals A
+queryResult A (refused number side index) = refusal number side index
 
-abbrev coveredOf : List ℕ → List ℕ → List ItemWords → ℕ → Result
-coveredOf asked pool its count =
-    queryResult (keep (covered pool (itemsOf (flatAll its)) count) asked) (queryVerdict pool (flatAll its))
+abbrev pairsOf : List ℕ → List ItemWords → ℕ → List Interval
+pairsOf pool its count = coveredPairs pool count (itemsOf (flatAll its))
+
+abbrev queryOf : List ℕ → List ItemWords → ℕ → Result
+queryOf pool its count = queryResult (pairsOf pool its count) (queryVerdict pool (flatAll its))
 
 abbrev containsResult : Answer Bool → Result
 containsResult (answered b) = yesOrNo b
@@ -133,22 +137,15 @@ startsAt code a = (code, 0, a ∷ [], [])
 
 -- ---- positions: the keys of 2, 5 and 7, and the i-th of them
 
-abbrev pub logKeys : List ℕ
+abbrev logKeys : List ℕ
 logKeys = (0 ∷ 0 ∷ 0 ∷ 0 ∷ 0 ∷ 0 ∷ 0 ∷ 2 ∷ []) ++ ((0 ∷ 0 ∷ 0 ∷ 0 ∷ 0 ∷ 0 ∷ 0 ∷ 5 ∷ []) ++ (0 ∷ 0 ∷ 0 ∷ 0 ∷ 0 ∷ 0 ∷ 0 ∷ 7 ∷ []))
 
 abbrev log : ℕ → KeyAt
 log i = keyAt (keySize * i) keySize
 
 -- [2,5), 5, [5,7]
-abbrev pub logItems : List ItemWords
+abbrev logItems : List ItemWords
 logItems = itemWords 1 0 (log 0) (log 1) ∷ itemWords 0 0 (log 1) absent ∷ itemWords 2 0 (log 1) (log 2) ∷ []
-
--- the positions that P9 and P10 are asked about: 0 to 9; the first two u64 and the last two
-abbrev firstTen : List ℕ
-firstTen = countUp 0 10
-
-abbrev ends : List ℕ
-ends = 0 ∷ 1 ∷ 18446744073709551614 ∷ 18446744073709551615 ∷ []
 
 -- ---- the table: what is given, and the document's result
 
@@ -174,11 +171,11 @@ rows =
     -- 01 P8: {}, {Key 04}: theirs Key 04
     ∷ (listsOf [] (one 0 3 ∷ []), lists [] [] (key 4 ∷ []))
     -- 01 P9: positions [2,5), 5, [5,7]: count 100: 2..8; count 6: 2..6
-    ∷ (coveredOf firstTen logKeys logItems 100, positions (2 ∷ 3 ∷ 4 ∷ 5 ∷ 6 ∷ 7 ∷ []))
-    ∷ (coveredOf firstTen logKeys logItems 6, positions (2 ∷ 3 ∷ 4 ∷ 5 ∷ []))
+    ∷ (queryOf logKeys logItems 100, intervals ((2, 8) ∷ []))
+    ∷ (queryOf logKeys logItems 6, intervals ((2, 6) ∷ []))
     -- 01 P10: full, count u64::MAX: 0..MAX; MAX not contained
-    ∷ (coveredOf ends [] (full ∷ []) lastWord, positions (0 ∷ 1 ∷ 18446744073709551614 ∷ []))
-    ∷ (containsResult (containsAnswer (0 ∷ lastWord ∷ []) lastWord), yesOrNo false)
+    ∷ (queryOf [] (full ∷ []) lastWord, intervals ((0, 18446744073709551615) ∷ []))
+    ∷ (containsResult (containsAnswer (flatPairs (pairsOf [] (full ∷ []) lastWord)) lastWord), yesOrNo false)
     -- 01 P11: 0..20, proved 3: 19 missing; 0,1,2,4 to 16
     ∷ (missingResult (missingAnswer (0 ∷ 20 ∷ []) (3 ∷ [])), report (record { total = 19; count = 16; examples = 0 ∷ 1 ∷ 2 ∷ 4 ∷ 5 ∷ 6 ∷ 7 ∷ 8 ∷ 9 ∷ 10 ∷ 11 ∷ 12 ∷ 13 ∷ 14 ∷ 15 ∷ 16 ∷ [] }))
     -- 01 P12: {[01,03],05,09}, insert [02,06): {[01,06),09}

@@ -1,7 +1,5 @@
 // Reports, and their text. Inputs of a report: the intervals, and the proved positions or the spans, each as numbers after their number
 // (2 bytes). Its answer is the total, how many examples there are (2 bytes), and the sixteen places.
-ghost use mathlib.Core.Path.{_≡_};
-ghost use lib.ListN.{length};
 use crate::words::after;
 use crate::words::fill;
 use crate::words::front;
@@ -10,6 +8,7 @@ use crate::words::room;
 use item_check::Checked;
 use position_describe::Described;
 use position_describe::describe;
+use position_describe::text_room;
 use position_mismatch::Compared;
 use position_mismatch::compare::extra_in;
 use position_mismatch::compare::missing_from;
@@ -131,7 +130,7 @@ fn is_report(a: &[u8], report: PositionMismatch) -> bool {
 // Inputs: the total, how many examples there are (2 bytes), the sixteen places, and the bytes lent (2 bytes). The answer is the text. Bytes
 // past it are kept.
 pub(crate) fn describe_met<'a>(x: &'a [u8], a: &'a [u8], rust: &'a [u8]) -> Met {
-    let mut out = text_room();
+    let mut out = text_room(BYTE_MARK);
     let answer = call(x, &mut out);
     match answer {
         Described::Bytes(n) => Met {
@@ -149,13 +148,6 @@ pub(crate) fn describe_met<'a>(x: &'a [u8], a: &'a [u8], rust: &'a [u8]) -> Met 
 }
 
 const BYTE_MARK: u8 = 254;
-
-// Marked room for a text.
-fn text_room() -> [u8; 512]
-    ensures { λ r. ⌜ 512 ≡ length r ⌝ }
-{
-    [BYTE_MARK; 512]
-}
 
 fn call(x: &[u8], out: &mut [u8]) -> Described {
     let report = PositionMismatch {

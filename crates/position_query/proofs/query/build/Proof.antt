@@ -6,7 +6,7 @@ use lib.ListN.{length}
 use denote.Ref.{now}
 use borrow.Author.Tests.{leb-true, leb-false, not-true, not-false}
 use Rattle.item_check.specs.Checks.{itemsOf}
-use Rattle.position_query.specs.Inner.{ranges}
+use Rattle.position_query.specs.Ranges.{ranges}
 use Rattle.position_query.proofs.Builds.{build-short, build-whole}
 use borrow.Author.Needs.{needs}
 use Rattle.position_query.proofs.query.build.Statement.{statement}

@@ -7,7 +7,7 @@ use denote.Ref.{now}
 use native.Mathlib.Omega.{arith}
 use native.Mathlib.Nat.{sub-zero}
 use Rattle.query_item.specs.Items.{itemSize, itemsFrom}
-use Rattle.position_query.specs.Inner.{ranges}
+use Rattle.position_query.specs.Ranges.{ranges}
 use Rattle.position_query.proofs.Builds.{ranges-end, ranges-some, ranges-none}
 use borrow.Author.Needs.{needs}
 use Rattle.position_query.proofs.query.count_ranges.Statement.{statement}
