@@ -147,10 +147,9 @@ module _ (pool : List ℕ) (n : ℕ) (fits : size pool ≤ n) where
 
     pub cut-carried : All Fine (cutSets pool a b) × (map iv (cutSets pool a b) ≡ cut (iv a) (iv b))
     unfolding cut
-    cut-carried = (
-      all-append Fine (leftOver pool a b) (rightOver pool a b) (left-carried .0) (right-carried .0),
-      map-append iv (leftOver pool a b) (rightOver pool a b) ∙ rw (left-carried .1, right-carried .1),
-    )
+    cut-carried =
+        let pieces : map iv (cutSets pool a b) ≡ cut (iv a) (iv b) = map-append iv (leftOver pool a b) (rightOver pool a b) ∙ rw (left-carried .1, right-carried .1) in
+        (all-append Fine (leftOver pool a b) (rightOver pool a b) (left-carried .0) (right-carried .0), pieces)
 
   -- ---- the lists
 

@@ -12,6 +12,7 @@ use Rattle.query_item.specs.declared.ItemWords.{ItemWords}
 use Rattle.query_item.specs.declared.RangeSetItem.{RangeSetItem}
 use Rattle.query_item.specs.Items.{itemSize}
 use Rattle.query_item.specs.Boundaries.{compareIn, rangeOf}
+use Rattle.item_check.proofs.Scans.{fault-passes}
 use Rattle.item_check.specs.Checks.{Verdict, answered, refused, accepted, andThen, mostItems, mostPool, uprightFault, faultAt, poolVerdict, shapeVerdict, firstBad, firstBreak, strictVerdict, itemsOf, wholeVerdict, listVerdict}
 
 -- each item is sound: nothing of 1, 2, 3 is wrong with it
@@ -40,10 +41,6 @@ pub record AcceptedList (pool ws : List ℕ) : Type 0 where
 pub accepts : (v w : Verdict) → andThen v w ≡ accepted ↔ ((v ≡ accepted) × (w ≡ accepted))
 accepts (answered u) w = (λ e. (refl, e), λ e. e .1)
 accepts (refused n s i) w = (λ e. (e, cc), λ e. e .0)
-
-fault-passes : (f side i : ℕ) → faultAt f side i ≡ accepted ↔ f ≡ 0
-fault-passes zero side i = (λ e. refl, λ e. refl)
-fault-passes (suc f) side i = (λ e. cc, λ e. cc)
 
 tested : (t : Bool) (v : Verdict) (n s i : ℕ) → cond t v (refused n s i) ≡ accepted ↔ ((t ≡ true) × (v ≡ accepted))
 tested true v n s i = (λ e. (refl, e), λ e. e .1)

@@ -3,6 +3,7 @@ use Prim.Native.Nat.{ℕ, zero, suc, _+_, _-_, _≤_, _<_}
 use mathlib.Core.Path.{_≡_, refl}
 use mathlib.Core.Bool.{true, false}
 use mathlib.Core.List.{List, [], _∷_}
+use mathlib.Core.Logic.{_↔_}
 use native.Mathlib.Omega.{arith}
 use native.Mathlib.Numerals.{add-one}
 use Rattle.key_order.specs.Order.{isLess}
@@ -11,9 +12,14 @@ use Rattle.query_item.specs.Items.{itemAt, itemsFrom}
 use Rattle.query_item.specs.Boundaries.{compareIn, setAt}
 use Rattle.item_check.specs.Checks.{Verdict, accepted, refused, faultAt, uprightFault, firstBad, firstBreak, strictVerdict}
 
+-- a fault is refused with its number, and 0 is none
 pub fault-refused : (f side i : ℕ) → (f ≡ 0 → ⊥) → faultAt f side i ≡ refused f side i
 fault-refused zero side i h = absurd (h refl)
 fault-refused (suc f) side i h = refl
+
+pub fault-passes : (f side i : ℕ) → faultAt f side i ≡ accepted ↔ f ≡ 0
+fault-passes zero side i = (λ e. refl, λ e. refl)
+fault-passes (suc f) side i = (λ e. cc, λ e. cc)
 
 module _ (ws : List ℕ) (i count : ℕ) where
   -- at the end no item is left; before it the first one left is that at i

@@ -117,7 +117,11 @@ unfolding ascendingVerdict
 ascending-accepted [] h = tt
 ascending-accepted (p ∷ P) h = (omega arith, falling-ascends 1 p P h)
 
--- ---- what an accepted call knows
+-- ---- what a call knows
+
+-- where the intervals are refused, that is the verdict, whatever is proved
+pub intervals-first : (ws P : List ℕ) (n s i : ℕ) → intervalsVerdict ws ≡ refused n s i → provedVerdict ws P ≡ refused n s i
+intervals-first ws P n s i h = rw h
 
 pub sound : (ws : List ℕ) → intervalsVerdict ws ≡ accepted → Sound ws
 sound ws h =
