@@ -1,2 +1,5 @@
+pub mod Laws
 pub mod Ranked
+pub mod Intervals
+pub mod Held
 pub mod Apart

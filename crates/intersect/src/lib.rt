@@ -1,5 +1,5 @@
 // Module 3 of document 01: what two items share and what is left over of each. `intersect_many` has the three lists of two lists of items.
-// Definitions: specs/Pair.antt. Laws: proofs/Ranked.antt (the pair in ranks).
+// Definitions: specs/Pair.antt. Laws: proofs/Laws.antt (which keys the pair holds), proofs/Ranked.antt (the pair in ranks).
 //
 // A function marked "inner" is public only because other crates need it. Its definition covers every input.
 pub mod pair;

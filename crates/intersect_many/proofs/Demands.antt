@@ -1,12 +1,43 @@
 -- DEMAND 3 (01 demand.3, tight.7), as laws of the lists that `intersect_many_ordered` writes, for any accepted lists A, B, C over one pool.
--- What a reader must believe is in specs/Demand.antt and specs/Lists.antt; each law is proved in Demanded.antt. Assumes nothing.
-use Prim.Native.Nat.{ℕ}
+-- What a reader must believe is in specs/Demand.antt and specs/Lists.antt; each law is proved in Called.antt, Room.antt or Demanded.antt. Assumes
+-- nothing.
+use Prim.Native.Nat.{ℕ, _*_}
 use mathlib.Core.Path.{_≡_}
 use mathlib.Core.Bool.{false, not, _&&_, _||_}
 use mathlib.Core.List.{List}
-use Rattle.intersect_many.specs.Lists.{sharedItems, onlyItems}
+use lib.ListN.{length, take}
+use Rattle.query_item.specs.declared.QueryItem.{QueryItem}
+use Rattle.query_item.specs.Items.{itemSize}
+use Rattle.item_check.specs.Checks.{answered}
+use Rattle.item_lists.specs.Written.{plain, written}
+use Rattle.intersect_many.specs.Lists.{sharedItems, onlyItems, wordsAll, lacksRoom, countsOf, manyAnswer}
 use Rattle.intersect_many.specs.Demand.{sharedWords, withoutWords, Accepted, Fits, listHolds, SameItems}
+use Rattle.intersect_many.proofs.Room.{length-words}
+use Rattle.intersect_many.proofs.Called as called
 use Rattle.intersect_many.proofs.Demanded as demanded
+
+module _ (pool A B : List ℕ) (a : Accepted pool A) (b : Accepted pool B) (both mine yours : List ℕ)
+    (room : lacksRoom (countsOf pool A B) both mine yours ≡ false) where
+  -- 0. Where the lent lists have room the call answers, with the counts of the three lists
+  pub call-answers : manyAnswer pool A B both mine yours ≡ answered (countsOf pool A B)
+  call-answers = called.call-answers pool A B a b both mine yours room
+
+  -- and leaves at the front of each lent list the words that the laws below speak of: A shared with B, A without B, B without A
+  pub writes-shared : take (length (sharedWords pool A B)) (written (manyAnswer pool A B both mine yours) (plain (sharedItems pool A B)) both)
+      ≡ sharedWords pool A B
+  writes-shared = called.call-writes pool A B a b both mine yours room (sharedItems pool A B) both
+
+  pub writes-ours : take (length (withoutWords pool A B)) (written (manyAnswer pool A B both mine yours) (plain (onlyItems pool A B)) mine)
+      ≡ withoutWords pool A B
+  writes-ours = called.call-writes pool A B a b both mine yours room (onlyItems pool A B) mine
+
+  pub writes-theirs : take (length (withoutWords pool B A)) (written (manyAnswer pool A B both mine yours) (plain (onlyItems pool B A)) yours)
+      ≡ withoutWords pool B A
+  writes-theirs = called.call-writes pool A B a b both mine yours room (onlyItems pool B A) yours
+
+-- six words for each item that is counted
+pub words-counted : (Q : List QueryItem) → length (wordsAll Q) ≡ itemSize * length Q
+words-counted Q = length-words Q
 
 module _ (pool A B : List ℕ) (a : Accepted pool A) (b : Accepted pool B) where
   -- 1. Shared holds exactly what both hold, without exactly what A holds and B does not: keys k of any length

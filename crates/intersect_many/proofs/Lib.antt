@@ -9,6 +9,7 @@ pub mod Listed
 pub mod Shown
 pub mod Sound
 pub mod Demanded
+pub mod Called
 pub mod Demands
 pub mod Stands
 pub mod Apart

@@ -13,10 +13,9 @@ use Rattle.query_item.specs.declared.ItemWords.{ItemWords}
 use Rattle.query_item.specs.declared.RangeSetItem.{RangeSetItem}
 use Rattle.query_item.specs.declared.RangeSet.{RangeSet}
 use Rattle.query_item.specs.Items.{queryItem}
-use Rattle.query_item.specs.Boundaries.{compareIn, invertOf, fromTo, rangeOf, upright}
+use Rattle.query_item.specs.Boundaries.{compareIn, invertOf, fromTo, rangeOf}
 use Rattle.query_item.proofs.Laws.{rankIn, less-rank, at-most-rank, upright-whole, whole-upright, invert-start, invert-end, rank-top}
-use Rattle.item_check.specs.Checks.{malformed, outside, uprightFault}
-use Rattle.item_check.proofs.Laws.{AllSound, Following, InOrder}
+use Rattle.item_check.proofs.Laws.{AllSound, Following, InOrder, sound-parts}
 use Rattle.intervals.proofs.Laws.{AboveOf, BelowOf, Spanned, Meeting, Cutting}
 use Rattle.intersect.specs.Pair.{before, overlap, meetSets, leftPart, leftOver, rightOver}
 use Rattle.intersect.proofs.Ranked as pair
@@ -73,7 +72,8 @@ module _ (pool : List ℕ) (n : ℕ) (fits : size pool ≤ n) where
         | yes k ↦ rw (pair.left-whole pool n fits a b A B (omega arith)) (omega arith, A, tt)
         | no k ↦
             let i = invert-start pool n fits (b .start) (B .starts) (omega arith) in
-            rw (pair.left-some pool n fits a b A B h (omega arith)) (omega (arith, i .1), pair.whole-of pool n fits (a .start) (invertOf (b .start) false) (A .starts) (i .0) (omega (arith, i .1)), tt)
+            let whole = pair.whole-of pool n fits (a .start) (invertOf (b .start) false) (A .starts) (i .0) (omega (arith, i .1)) in
+            rw (pair.left-some pool n fits a b A B h (omega arith)) (omega (arith, i .1), whole, tt)
       ]
     ]
 
@@ -176,20 +176,11 @@ module _ (pool : List ℕ) (n : ℕ) (fits : size pool ≤ n) where
 
   -- ---- accepted lists ascend
 
-  sound-upright : (it : ItemWords) → uprightFault pool it ≡ 0 → upright pool (rangeOf it) ≡ true
-  sound-upright it e = go (malformed it) (outside pool it) (upright pool (rangeOf it)) e
-    where
-      go : (m o t : Bool) → _≡_ {A = ℕ} (cond m 1 (cond o 2 (cond t 0 3))) 0 → t ≡ true
-      go true o t e = absurd (omega arith)
-      go false true t e = absurd (omega arith)
-      go false false true e = refl
-      go false false false e = absurd (omega arith)
-
   following-above : (e : RangeSetItem) (its : List ItemWords) → AllSound pool its → Following pool e its → AboveOf Good low high (rk e + 1) (map rangeOf its)
   following-above e [] s f = tt
   following-above e (it ∷ its) s f = (
     omega (arith, ltb-true (rk e) (rk (rangeOf it .start)) (sym (less-rank pool n fits e (rangeOf it .start)) ∙ f .0)),
-    upright-whole pool n fits (queryItem it) (sound-upright it (s .0)),
+    upright-whole pool n fits (queryItem it) (sound-parts pool it (s .0) .2),
     following-above (rangeOf it .end) its (s .1) (f .1),
   )
 
@@ -197,6 +188,6 @@ module _ (pool : List ℕ) (n : ℕ) (fits : size pool ≤ n) where
   order-above [] s o = tt
   order-above (it ∷ its) s o = (
     omega arith,
-    upright-whole pool n fits (queryItem it) (sound-upright it (s .0)),
+    upright-whole pool n fits (queryItem it) (sound-parts pool it (s .0) .2),
     following-above (rangeOf it .end) its (s .1) o,
   )

@@ -15,7 +15,7 @@ use Rattle.query_item.specs.Items.{absent, itemOf, queryItem}
 use Rattle.query_item.specs.Boundaries.{toRangeSet, rangeOf, upright}
 use Rattle.query_item.proofs.Laws.{upright-whole}
 use Rattle.item_check.specs.Checks.{hasStart, hasEnd, malformed, keyOut, outside, uprightFault, itemsOf}
-use Rattle.item_check.proofs.Laws.{or-false, AllSound, AcceptedList}
+use Rattle.item_check.proofs.Laws.{or-false, AllSound, AcceptedList, sound-parts}
 use Rattle.intervals.specs.Intervals.{Above, Strict}
 use Rattle.intervals.proofs.Laws.{All, AboveOf}
 use Rattle.intersect_many.specs.Lists.{setsOf}
@@ -39,16 +39,6 @@ code-keys pool (suc (suc (suc (suc (suc (suc (suc zero))))))) a b h e = (or-fals
 code-keys pool (suc (suc (suc (suc (suc (suc (suc (suc zero)))))))) a b h e = or-false (keyOut pool a) (keyOut pool b) .0 e
 code-keys pool (suc (suc (suc (suc (suc (suc (suc (suc (suc zero))))))))) a b h e = or-false (keyOut pool a) (keyOut pool b) .0 e
 code-keys pool (suc (suc (suc (suc (suc (suc (suc (suc (suc (suc c)))))))))) a b h e = absurd (omega arith)
-
--- nothing of 1, 2, 3 is wrong
-sound-parts : (pool : List ℕ) (it : ItemWords) → uprightFault pool it ≡ 0 → (malformed it ≡ false) × (outside pool it ≡ false) × (upright pool (rangeOf it) ≡ true)
-sound-parts pool it e = go (malformed it) (outside pool it) (upright pool (rangeOf it)) e
-  where
-    go : (m o t : Bool) → _≡_ {A = ℕ} (cond m 1 (cond o 2 (cond t 0 3))) 0 → (m ≡ false) × (o ≡ false) × (t ≡ true)
-    go true o t e = absurd (omega arith)
-    go false true t e = absurd (omega arith)
-    go false false true e = (refl, refl, refl)
-    go false false false e = absurd (omega arith)
 
 code-known : (it : ItemWords) → malformed it ≡ false → it .code ≤ 9
 code-known it e =

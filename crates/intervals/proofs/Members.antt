@@ -58,7 +58,8 @@ holds-append (a ∷ L) M x = rw (holds-append L M x, or-assoc)
 -- ---- two intervals
 
 module _ (s e s′ e′ x : ℕ) where
-  inside-meet : inside (max s s′) (min e e′) x ≡ inside s e x && inside s′ e′ x
+  -- in the piece that two share exactly if in both
+  pub inside-meet : inside (max s s′) (min e e′) x ≡ inside s e x && inside s′ e′ x
   inside-meet = elim (where-is s e x) [
     | below h ↦ rw (inside-below s e x h, inside-below (max s s′) (min e e′) x (omega arith))
     | in-it h k ↦ rw (inside-yes s e x h k) (elim (where-is s′ e′ x) [
@@ -69,7 +70,8 @@ module _ (s e s′ e′ x : ℕ) where
     | past h ↦ rw (inside-past s e x h, inside-past (max s s′) (min e e′) x (omega arith))
   ]
 
-  inside-cut : inside s (min e s′) x || inside (max s e′) e x ≡ inside s e x && not (inside s′ e′ x)
+  -- in one of the pieces that are left exactly if in the first and not in the second
+  pub inside-cut : inside s (min e s′) x || inside (max s e′) e x ≡ inside s e x && not (inside s′ e′ x)
   inside-cut = elim (where-is s e x) [
     | below h ↦ rw (inside-below s e x h, inside-below s (min e s′) x h, inside-below (max s e′) e x (omega arith))
     | in-it h k ↦ rw (inside-yes s e x h k) (elim (where-is s′ e′ x) [
@@ -80,6 +82,13 @@ module _ (s e s′ e′ x : ℕ) where
       | past m ↦ rw (inside-past s′ e′ x m, inside-yes (max s e′) e x (omega arith) k, or-true)
     ])
     | past h ↦ rw (inside-past s e x h, inside-past s (min e s′) x (omega arith), inside-past (max s e′) e x h)
+  ]
+
+  -- no number is in both of these
+  pub cut-once : s′ ≤ e′ → inside s (min e s′) x && inside (max s e′) e x ≡ false
+  cut-once l = elim (decLt x s′) [
+    | yes h ↦ rw (inside-below (max s e′) e x (omega arith), and-false)
+    | no h ↦ rw (inside-past s (min e s′) x (omega arith))
   ]
 
 -- ---- an interval and a list

@@ -4,6 +4,7 @@ use mathlib.Core.Path.{_≡_, refl, sym}
 use mathlib.Core.Bool.{Bool, true, false, not, cond, _||_, true≢false}
 use mathlib.Core.List.{List, [], _∷_}
 use mathlib.Core.Logic.{_↔_}
+use native.Mathlib.Omega.{arith}
 use lib.ListN.{length}
 use lib.Dec.{eqb, ltb}
 use borrow.Author.Tests.{ltb-false, le-ltb, eqb-true, eq-eqb, not-false}
@@ -11,9 +12,10 @@ use Rattle.key_order.specs.Order.{isLess}
 use Rattle.query_item.specs.declared.ItemWords.{ItemWords}
 use Rattle.query_item.specs.declared.RangeSetItem.{RangeSetItem}
 use Rattle.query_item.specs.Items.{itemSize}
-use Rattle.query_item.specs.Boundaries.{compareIn, rangeOf}
+use Rattle.query_item.specs.Boundaries.{compareIn, rangeOf, upright}
 use Rattle.item_check.proofs.Scans.{fault-passes}
-use Rattle.item_check.specs.Checks.{Verdict, answered, refused, accepted, andThen, mostItems, mostPool, uprightFault, faultAt, poolVerdict, shapeVerdict, firstBad, firstBreak, strictVerdict, itemsOf, wholeVerdict, listVerdict}
+use Rattle.item_check.specs.Checks.{Answer, Verdict, answered, refused, accepted, andThen, mostItems, mostPool, malformed, outside, uprightFault, faultAt}
+use Rattle.item_check.specs.Checks.{poolVerdict, shapeVerdict, firstBad, firstBreak, strictVerdict, itemsOf, wholeVerdict, listVerdict}
 
 -- each item is sound: nothing of 1, 2, 3 is wrong with it
 abbrev pub AllSound : List ℕ → List ItemWords → Type 0
@@ -41,6 +43,22 @@ pub record AcceptedList (pool ws : List ℕ) : Type 0 where
 pub accepts : (v w : Verdict) → andThen v w ≡ accepted ↔ ((v ≡ accepted) × (w ≡ accepted))
 accepts (answered u) w = (λ e. (refl, e), λ e. e .1)
 accepts (refused n s i) w = (λ e. (e, cc), λ e. e .0)
+
+-- a call that answers has passed its first check, and what comes after it answers
+pub answers : {A : Type 0} (v : Verdict) (a : Answer A) (p : A) → andThen v a ≡ answered p → (v ≡ accepted) × (a ≡ answered p)
+answers (answered u) a p e = (refl, e)
+answers (refused n s i) a p e = absurd (let z : _≡_ {A = ℕ} 0 1 = cc in omega arith)
+
+-- an item that nothing of 1, 2, 3 is wrong with
+pub sound-parts : (pool : List ℕ) (it : ItemWords) → uprightFault pool it ≡ 0
+    → (malformed it ≡ false) × (outside pool it ≡ false) × (upright pool (rangeOf it) ≡ true)
+sound-parts pool it e = go (malformed it) (outside pool it) (upright pool (rangeOf it)) e
+  where
+    go : (m o t : Bool) → _≡_ {A = ℕ} (cond m 1 (cond o 2 (cond t 0 3))) 0 → (m ≡ false) × (o ≡ false) × (t ≡ true)
+    go true o t e = absurd (omega arith)
+    go false true t e = absurd (omega arith)
+    go false false true e = (refl, refl, refl)
+    go false false false e = absurd (omega arith)
 
 tested : (t : Bool) (v : Verdict) (n s i : ℕ) → cond t v (refused n s i) ≡ accepted ↔ ((t ≡ true) × (v ≡ accepted))
 tested true v n s i = (λ e. (refl, e), λ e. e .1)

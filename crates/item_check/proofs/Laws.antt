@@ -4,5 +4,7 @@
 pub use Rattle.item_check.proofs.Apart.{refused-apart, verdict-apart}
 -- what the check of a list accepts
 pub use Rattle.item_check.proofs.Accepted.{AllSound, Following, InOrder, AcceptedList, accepts, or-false, accepted-list, pool-passes}
+-- what a call that answers has passed, and what of an item
+pub use Rattle.item_check.proofs.Accepted.{answers, sound-parts}
 -- a list at an index
-pub use Rattle.item_check.proofs.Scans.{items-end, items-more, fault-refused}
+pub use Rattle.item_check.proofs.Scans.{items-end, items-more, fault-passes, fault-refused}

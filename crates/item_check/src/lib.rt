@@ -1,5 +1,6 @@
-// Module 2 of document 01: the refusals, and the checks of items and lists in the order that the document fixes. Every entry point of every
-// module uses these and no others. Definitions: specs/Checks.antt. Laws: proofs/Laws.antt.
+// Module 2 of document 01: the refusals, and the checks of items and lists of items in the order that the document fixes. Every call that is
+// lent items refuses by these. What a crate above checks besides stands there: the order of a list that is inserted into, position items,
+// intervals and proved positions, a report, a file. Module 1 refuses nothing. Definitions: specs/Checks.antt. Laws: proofs/Laws.antt.
 ghost use mathlib.Core.Path.{_≡_};
 ghost use Rattle.query_item.specs.Items.{itemsFrom};
 ghost use Rattle.query_item.specs.Boundaries.{setAt, upright};

@@ -8,7 +8,7 @@ use native.Mathlib.Omega.{arith}
 use lib.Dec.{ltb, eqb}
 use lib.ListN.{length, getD, drop, drop-of-length-le}
 use lib.Seq.{drop-cons}
-use borrow.Author.Tests.{lt-ltb, le-ltb, ltb-true, eqb-true}
+use borrow.Author.Tests.{lt-ltb, le-ltb, ltb-true, eq-eqb, eqb-true}
 use Rattle.intervals.specs.Intervals.{Interval, Apart, Canonical}
 use Rattle.item_check.specs.declared.Checked.{Checked}
 use Rattle.item_check.specs.declared.Checked.the-variants.{Accepted}
@@ -19,8 +19,8 @@ use Rattle.pairs_sort.proofs.Laws.{pairs-more, pairs-end}
 use Rattle.position_given.specs.Inner.{Sound, Ascends}
 use Rattle.position_given.specs.Given.{intervalsOf, evenVerdict, firstTouching, canonicalVerdict, intervalsVerdict, firstFalling, ascendingVerdict, provedVerdict}
 
--- an answer is no refusal
-never-accepted : {X : Type 0} {n s i : ℕ} → refused n s i ≡ accepted → X
+-- a refusal is no acceptance
+pub never-accepted : {X : Type 0} {n s i : ℕ} → refused n s i ≡ accepted → X
 never-accepted e = let z : _≡_ {A = ℕ} 0 1 = cc in absurd (omega arith)
 
 -- ---- intervals
@@ -68,6 +68,12 @@ touching-apart i e (a ∷ A) h = go (ltb e (a .0)) (ltb (a .0) (a .1)) refl refl
     go true false p q r rest = never-accepted r
     go false u p q r rest = never-accepted r
 
+-- the other way round: what stands apart is accepted
+apart-touching : (i e : ℕ) (A : List Interval) → Apart (suc e) A → firstTouching i e A ≡ accepted
+unfolding firstTouching
+apart-touching i e [] h = refl
+apart-touching i e (a ∷ A) h = rw (lt-ltb e (a .0) (h .0), lt-ltb (a .0) (a .1) (h .1)) (apart-touching (suc i) (a .1) A (h .2))
+
 pub canonical-accepted : (A : List Interval) → canonicalVerdict A ≡ accepted → Canonical A
 unfolding canonicalVerdict
 canonical-accepted [] h = tt
@@ -76,6 +82,12 @@ canonical-accepted (a ∷ A) h = go (ltb (a .0) (a .1)) refl h
     go : (t : Bool) → ltb (a .0) (a .1) ≡ t → cond t (firstTouching 1 (a .1) A) (refused 9 0 0) ≡ accepted → Canonical (a ∷ A)
     go true p r = (omega arith, ltb-true (a .0) (a .1) p, touching-apart 1 (a .1) A r)
     go false p r = never-accepted r
+
+-- canonical intervals are accepted
+pub canonical-accepts : (A : List Interval) → Canonical A → canonicalVerdict A ≡ accepted
+unfolding canonicalVerdict
+canonical-accepts [] h = refl
+canonical-accepts (a ∷ A) h = rw (lt-ltb (a .0) (a .1) (h .1)) (apart-touching 1 (a .1) A (h .2))
 
 -- ---- proved positions
 
@@ -112,10 +124,21 @@ falling-ascends i p (q ∷ P) h = go (ltb p q) refl h (falling-ascends (suc i) q
     go true e r rest = (ltb-true p q e, rest r)
     go false e r rest = never-accepted r
 
+ascends-falling : (i p : ℕ) (P : List ℕ) → Ascends (suc p) P → firstFalling i p P ≡ accepted
+unfolding firstFalling
+ascends-falling i p [] h = refl
+ascends-falling i p (q ∷ P) h = rw (lt-ltb p q (h .0)) (ascends-falling (suc i) q P (h .1))
+
 pub ascending-accepted : (P : List ℕ) → ascendingVerdict P ≡ accepted → Ascends 0 P
 unfolding ascendingVerdict
 ascending-accepted [] h = tt
 ascending-accepted (p ∷ P) h = (omega arith, falling-ascends 1 p P h)
+
+-- strictly ascending positions are accepted
+pub ascending-accepts : (P : List ℕ) → Ascends 0 P → ascendingVerdict P ≡ accepted
+unfolding ascendingVerdict
+ascending-accepts [] h = refl
+ascending-accepts (p ∷ P) h = ascends-falling 1 p P (h .1)
 
 -- ---- what a call knows
 
@@ -132,10 +155,22 @@ sound ws h =
     go true p q = eqb-true (length ws % 2) 0 p
     go false p q = never-accepted q
 
+-- words in pairs, canonical, are accepted
+pub sound-accepts : (ws : List ℕ) → Sound ws → intervalsVerdict ws ≡ accepted
+sound-accepts ws S = rw (eq-eqb (length ws % 2) 0 (S .even)) (canonical-accepts (intervalsOf ws) (S .canonical))
+
 pub sound-of : (ws : List ℕ) (r : Checked) → verdictOf r ≡ intervalsVerdict ws → r ≡ Accepted → Sound ws
 sound-of ws r e a = sound ws (sym e ∙ ap verdictOf a)
 
-pub sound-proved : (ws P : List ℕ) (r : Checked) → verdictOf r ≡ provedVerdict ws P → r ≡ Accepted → Sound ws × Ascends 0 P
-sound-proved ws P r e a =
-    let both = accepts (intervalsVerdict ws) (ascendingVerdict P) .0 (sym e ∙ ap verdictOf a) in
+-- both, intervals and proved positions
+
+pub proved-accepted : (ws P : List ℕ) → provedVerdict ws P ≡ accepted → Sound ws × Ascends 0 P
+proved-accepted ws P h =
+    let both = accepts (intervalsVerdict ws) (ascendingVerdict P) .0 h in
     (sound ws (both .0), ascending-accepted P (both .1))
+
+pub proved-accepts : (ws P : List ℕ) → Sound ws → Ascends 0 P → provedVerdict ws P ≡ accepted
+proved-accepts ws P S a = rw (sound-accepts ws S) (ascending-accepts P a)
+
+pub sound-proved : (ws P : List ℕ) (r : Checked) → verdictOf r ≡ provedVerdict ws P → r ≡ Accepted → Sound ws × Ascends 0 P
+sound-proved ws P r e a = proved-accepted ws P (sym e ∙ ap verdictOf a)

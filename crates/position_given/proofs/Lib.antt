@@ -1,3 +1,5 @@
+pub mod Laws
 pub mod Apart
 pub mod Accepted
 pub mod Widths
+pub mod Fronts

@@ -1,6 +1,6 @@
 // Module 6 of document 01: intervals and proved positions, which are lent as words: their checks, in the order that document 01 fixes.
 // Definitions: specs/Given.antt (the checks), specs/Positions.antt (the positions of intervals), specs/Inner.antt (what inner and private
-// functions promise, here and in the crates above). Laws: proofs/Accepted.antt, proofs/Widths.antt.
+// functions promise, here and in the crates above). Laws: proofs/Laws.antt, proofs/Widths.antt.
 //
 // Every function is inner: it is public only because other crates need it, and its definition covers every input.
 ghost use mathlib.Core.Path.{_≡_};

@@ -1,5 +1,6 @@
 // Module 6 of document 01: log positions as half-open intervals, which are lent as words: what they are asked. `position_given` checks them,
-// `position_query` makes them of query items, `position_mismatch` compares them with the positions that a proof carries.
+// `position_query` makes them of query items, `position_mismatch` compares them with the positions that a proof carries, and `position_joined`
+// has the laws of these calls one after the other.
 // Definitions: specs/Asked.antt. Laws: proofs/Laws.antt.
 pub mod ask;
 

@@ -1,5 +1,5 @@
--- Each law that a caller cites, in the order of specs/: that answers are told apart, how positions are counted, and what the walk over spans
--- gives. No contract cites this file. Assumes nothing.
+-- Each law that a caller cites, in the order of specs/: that answers are told apart, how positions are counted, what the walk over spans
+-- gives, and that spans are as their positions. No contract cites this file. Assumes nothing.
 use Prim.Native.Nat.{ℕ, _+_}
 use mathlib.Core.Path.{_≡_, refl, sym, ap, _∙_}
 use mathlib.Core.Bool.{Bool, true, false, not, _&&_}
@@ -10,13 +10,14 @@ use Rattle.intervals.specs.Intervals as interval
 use Rattle.intervals.proofs.Laws.{canonical→strict}
 use Rattle.item_check.specs.declared.Checked.{Checked}
 use Rattle.item_check.specs.declared.Checked.the-variants as checked
-use Rattle.item_check.specs.Checks.{answered, verdictOf, andThen}
+use Rattle.item_check.specs.Checks.{answered, accepted, verdictOf, andThen}
 use Rattle.item_check.proofs.Laws.{refused-apart}
 use Rattle.position_given.specs.Positions.{positionsOf}
 use Rattle.position_given.specs.Inner.{Ascends}
+use Rattle.position_given.proofs.Accepted.{ascending-accepts}
 use Rattle.position_mismatch.specs.declared.Compared.{Compared}
-use Rattle.position_mismatch.specs.Reports.{isIn, keep, missing, extra, present, comparedOf}
-use Rattle.position_mismatch.proofs.Positions.{in-keep, in-positions, ascends-keep, ascends-positions, ascends-unique, keep-parts}
+use Rattle.position_mismatch.specs.Reports.{isIn, keep, missing, extra, present, firstCrossing, missingAnswer, spansAnswer, comparedOf}
+use Rattle.position_mismatch.proofs.Positions.{in-keep, in-positions, ascends-keep, ascends-positions, ascends-spans, ascends-unique, keep-parts}
 pub use Rattle.position_mismatch.proofs.Positions.{ascends-unique, in-positions}
 pub use Rattle.position_mismatch.proofs.Steps.{Gives, spans-answer}
 
@@ -65,3 +66,9 @@ missing-ascends A P C = ascends-keep 0 (λ p. not (isIn P p)) (positionsOf A) (a
 pub extra-ascends : (A : List Interval) (P : List ℕ) → Ascends 0 P → Ascends 0 (extra A P)
 unfolding extra
 extra-ascends A P a = ascends-keep 0 (λ p. not (interval.holds A p)) P a
+
+-- ---- spans as their positions
+
+-- 01 m6.11: accepted spans give what `missing_from` gives on their positions, and the same refusal where the intervals are refused
+pub spans-as-positions : (ws : List ℕ) (S : List Interval) → firstCrossing 0 0 S ≡ accepted → spansAnswer ws S ≡ missingAnswer ws (positionsOf S)
+spans-as-positions ws S h = rw (h, ascending-accepts (positionsOf S) (ascends-spans 0 0 S h))

@@ -5,14 +5,16 @@ use mathlib.Core.Bool.{Bool, true, false, cond, not, _&&_, _||_, or-assoc, and-f
 use mathlib.Core.List.{List, [], _∷_, _++_, append-assoc}
 use native.Mathlib.Decide.{decLt, ℕ-discrete}
 use native.Mathlib.Omega.{arith}
-use lib.Dec.{eqb}
+use lib.Dec.{leb, eqb}
 use lib.ListN.{length}
-use borrow.Author.Tests.{eq-eqb, ne-eqb}
+use borrow.Author.Tests.{leb-true, eq-eqb, ne-eqb}
 use Rattle.intervals.specs.Intervals.{Interval, Above, inside, holds}
 use Rattle.intervals.proofs.Members.{where-is, below, in-it, past, inside-below, inside-yes, inside-past}
+use Rattle.item_check.specs.Checks.{accepted, refused}
 use Rattle.position_given.specs.Positions.{countUp, positionsOf}
 use Rattle.position_given.specs.Inner.{Ascends}
-use Rattle.position_mismatch.specs.Reports.{isIn, keep}
+use Rattle.position_given.proofs.Accepted.{never-accepted}
+use Rattle.position_mismatch.specs.Reports.{isIn, keep, firstCrossing}
 
 -- ---- members
 
@@ -104,17 +106,39 @@ unfolding countUp
 ascends-count s zero = tt
 ascends-count s (suc k) = (omega arith, ascends-count (suc s) k)
 
+-- an interval's positions stand below its end
+in-end : (s e p : ℕ) → isIn (countUp s (e - s)) p ≡ true → p < e
+in-end s e p h = elim (decLt p e) [
+  | yes k ↦ k
+  | no k ↦ absurd (true≢false (sym h ∙ in-between s e p ∙ inside-past s e p (omega arith)))
+]
+
 pub ascends-positions : (lo : ℕ) (A : List Interval) → Above lo A → Ascends lo (positionsOf A)
 unfolding positionsOf
 ascends-positions lo [] h = tt
 ascends-positions lo (a ∷ A) h =
     ascends-append lo (a .1) (countUp (a .0) (a .1 - a .0)) (positionsOf A) (omega arith)
     (ascends-weaken (a .0) lo (countUp (a .0) (a .1 - a .0)) (h .0) (ascends-count (a .0) (a .1 - a .0)))
-    (λ p e. inside-end (a .0) (a .1) p (sym (in-between (a .0) (a .1) p) ∙ e))
+    (in-end (a .0) (a .1))
     (ascends-positions (a .1) A (h .2))
+
+-- the positions of accepted spans ascend; empty and touching spans are accepted too
+pub ascends-spans : (i e : ℕ) (S : List Interval) → firstCrossing i e S ≡ accepted → Ascends e (positionsOf S)
+unfolding firstCrossing positionsOf
+ascends-spans i e [] h = tt
+ascends-spans i e (a ∷ S) h = go (leb e (a .0)) (leb (a .0) (a .1)) refl refl h (ascends-spans (suc i) (a .1) S)
   where
-    inside-end : (s e p : ℕ) → inside s e p ≡ true → p < e
-    inside-end s e p h = elim (decLt p e) [ yes k ↦ k | no k ↦ absurd (true≢false (sym h ∙ inside-past s e p (omega arith))) ]
+    go : (t u : Bool) → leb e (a .0) ≡ t → leb (a .0) (a .1) ≡ u → cond (t && u) (firstCrossing (suc i) (a .1) S) (refused 8 1 i) ≡ accepted
+        → (firstCrossing (suc i) (a .1) S ≡ accepted → Ascends (a .1) (positionsOf S)) → Ascends e (countUp (a .0) (a .1 - a .0) ++ positionsOf S)
+    go true true p q r rest =
+        let from : e ≤ a .0 = leb-true e (a .0) p in
+        let up : a .0 ≤ a .1 = leb-true (a .0) (a .1) q in
+        ascends-append e (a .1) (countUp (a .0) (a .1 - a .0)) (positionsOf S) (omega arith)
+        (ascends-weaken (a .0) e (countUp (a .0) (a .1 - a .0)) from (ascends-count (a .0) (a .1 - a .0)))
+        (in-end (a .0) (a .1))
+        (rest r)
+    go true false p q r rest = never-accepted r
+    go false u p q r rest = never-accepted r
 
 -- nothing below lo is in a list that starts at lo
 pub in-below : (lo : ℕ) (L : List ℕ) (p : ℕ) → Ascends lo L → p < lo → isIn L p ≡ false
@@ -188,6 +212,17 @@ keep-same f g (p ∷ L) h =
     or-right : (t : Bool) → t || true ≡ true
     or-right true = refl
     or-right false = refl
+
+-- what f keeps of what g keeps is what both keep
+pub keep-keep : (f g : ℕ → Bool) (L : List ℕ) → keep f (keep g L) ≡ keep (λ p. g p && f p) L
+unfolding keep
+keep-keep f g [] = refl
+keep-keep f g (p ∷ L) = go (g p) (keep-keep f g L)
+  where
+    go : (t : Bool) → keep f (keep g L) ≡ keep (λ q. g q && f q) L
+        → keep f (cond t (p ∷ keep g L) (keep g L)) ≡ cond (t && f p) (p ∷ keep (λ q. g q && f q) L) (keep (λ q. g q && f q) L)
+    go true r = ap (λ (l : List ℕ). cond (f p) (p ∷ l) l) r
+    go false r = r
 
 pub keep-never : (L : List ℕ) → keep (λ p. false) L ≡ []
 unfolding keep

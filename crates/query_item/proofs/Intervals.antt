@@ -1,14 +1,15 @@
 -- A range of a pool as an interval of ranks, at a size n that fits: the order of boundaries, upright and strict as numbers, what a range
 -- holds, and what `invert` does. Assumes nothing.
 use Prim.Native.Nat.{ℕ, _+_, _*_, _≤_, _<_}
-use mathlib.Core.Path.{_≡_, sym, ap, _∙_}
-use mathlib.Core.Bool.{Bool, true, false, _&&_}
+use mathlib.Core.Path.{_≡_, refl, sym, ap, _∙_}
+use mathlib.Core.Bool.{Bool, true, false, cond, _&&_}
 use mathlib.Core.List.{List}
 use native.Mathlib.Decide.{decLe}
 use native.Mathlib.Omega.{arith}
 use lib.Dec.{leb, ltb}
 use borrow.Author.Tests.{leb-true, lt-ltb, le-ltb, le-leb, lt-leb}
 use Rattle.key_order.specs.Order.{isLess, isAtMost}
+use Rattle.key_order.specs.Boundary.{between}
 use Rattle.key_order.proofs.Line.{size, past}
 use Rattle.key_order.proofs.Numbers.{Says}
 use Rattle.key_order.proofs.Ranks.{extent, rank, keyRank, rank-bound, rank-says, boundary-less, boundary-at-most, between-rank}
@@ -29,10 +30,12 @@ use Rattle.query_item.specs.declared.QueryItem.the-variants.{
 use Rattle.query_item.specs.declared.RangeSetItem.{RangeSetItem}
 use Rattle.query_item.specs.declared.RangeSetItem.the-variants.{UnboundedStart, UnboundedEnd, Inclusive, ExclusiveStart, ExclusiveEnd}
 use Rattle.query_item.specs.declared.RangeSet.{RangeSet}
-use Rattle.query_item.specs.Items.{holds}
-use Rattle.query_item.specs.Boundaries.{boundaryOf, compareIn, invertOf, toRangeSet, upright}
+use Rattle.query_item.specs.declared.MaybeItem.{MaybeItem}
+use Rattle.query_item.specs.declared.MaybeItem.the-variants.{NoItem, Item}
+use Rattle.query_item.specs.Items.{bytesOf, same, holds, holdsMaybe}
+use Rattle.query_item.specs.Boundaries.{boundaryOf, compareIn, invertOf, toRangeSet, itemBetween, toQueryItem, upright}
 use Rattle.query_item.proofs.Fits.{boundary-fits}
-use Rattle.query_item.proofs.Held.{holds-between}
+use Rattle.query_item.proofs.Held.{holds-between, holds-converted}
 
 -- boundaries that a range can start with, and end with
 
@@ -49,6 +52,35 @@ Ends UnboundedEnd = Unit {0}
 Ends (Inclusive k) = Unit {0}
 Ends (ExclusiveStart k) = ⊥
 Ends (ExclusiveEnd k) = Unit {0}
+
+-- a start and an end make an item
+
+abbrev Made : MaybeItem → Type 0
+Made NoItem = ⊥
+Made (Item q) = Unit {0}
+
+item-made : (pool : List ℕ) (s e : RangeSetItem) → Starts s → Ends e → Made (itemBetween pool s e)
+item-made pool (Inclusive a) (Inclusive b) h k = go (same (bytesOf pool a) (bytesOf pool b))
+  where
+    go : (t : Bool) → Made (cond t (Item (Key a)) (Item (RangeInclusive a b)))
+    go true = tt
+    go false = tt
+item-made pool (Inclusive a) (ExclusiveEnd b) h k = tt
+item-made pool (Inclusive a) UnboundedEnd h k = tt
+item-made pool (Inclusive a) UnboundedStart h k = k
+item-made pool (Inclusive a) (ExclusiveStart b) h k = k
+item-made pool (ExclusiveStart a) (Inclusive b) h k = tt
+item-made pool (ExclusiveStart a) (ExclusiveEnd b) h k = tt
+item-made pool (ExclusiveStart a) UnboundedEnd h k = tt
+item-made pool (ExclusiveStart a) UnboundedStart h k = k
+item-made pool (ExclusiveStart a) (ExclusiveStart b) h k = k
+item-made pool UnboundedStart (Inclusive b) h k = tt
+item-made pool UnboundedStart (ExclusiveEnd b) h k = tt
+item-made pool UnboundedStart UnboundedEnd h k = tt
+item-made pool UnboundedStart UnboundedStart h k = k
+item-made pool UnboundedStart (ExclusiveStart b) h k = k
+item-made pool UnboundedEnd e h k = h
+item-made pool (ExclusiveEnd a) e h k = h
 
 -- n is the pool's size, or more where an asked key is larger
 module _ (pool : List ℕ) (n : ℕ) (fits : size pool ≤ n) where
@@ -105,20 +137,33 @@ module _ (pool : List ℕ) (n : ℕ) (fits : size pool ≤ n) where
   pub whole-upright : (a : RangeSet) → Whole a → upright pool a ≡ true
   whole-upright a w = at-most-rank (a .start) (a .end) ∙ le-leb _ _ (w .straight)
 
-  -- a key is held exactly where its rank lies in the item's interval
-  pub holds-interval : (q : QueryItem) (k : List ℕ) → size k ≤ n
-      → holds pool q k ≡ inside (interval (toRangeSet q) .0) (interval (toRangeSet q) .1) (keyRank n k)
+  -- a key lies between two boundaries exactly where its rank lies in their interval
+  between-interval : (a : RangeSet) (k : List ℕ) → size k ≤ n
+      → between (boundaryOf pool (a .start)) (boundaryOf pool (a .end)) k ≡ inside (interval a .0) (interval a .1) (keyRank n k)
   unfolding inside
-  holds-interval q k h =
-      holds-between pool q k
-      ∙ between-rank n _ _ k (fit (toRangeSet q .start)) (fit (toRangeSet q .end)) h
-      ∙ ap (λ (t : Bool). leb (rankIn (toRangeSet q .start)) (keyRank n k) && t) (leb-ltb (keyRank n k) (rankIn (toRangeSet q .end)))
+  between-interval a k h =
+      between-rank n _ _ k (fit (a .start)) (fit (a .end)) h
+      ∙ ap (λ (t : Bool). leb (rankIn (a .start)) (keyRank n k) && t) (leb-ltb (keyRank n k) (rankIn (a .end)))
     where
       leb-ltb : (x y : ℕ) → leb x y ≡ ltb x (y + 1)
       leb-ltb x y = elim (decLe x y) [
         | yes l ↦ le-leb x y l ∙ sym (lt-ltb x (y + 1) (omega arith))
         | no l ↦ lt-leb x y (omega arith) ∙ sym (le-ltb x (y + 1) (omega arith))
       ]
+
+  -- a key is held exactly where its rank lies in the item's interval
+  pub holds-interval : (q : QueryItem) (k : List ℕ) → size k ≤ n
+      → holds pool q k ≡ inside (interval (toRangeSet q) .0) (interval (toRangeSet q) .1) (keyRank n k)
+  holds-interval q k h = holds-between pool q k ∙ between-interval (toRangeSet q) k h
+
+  -- and so by the item that two boundaries make, which a start and an end do
+  pub holds-made : (a : RangeSet) → Starts (a .start) → Ends (a .end) → (k : List ℕ) → size k ≤ n
+      → holdsMaybe pool (toQueryItem pool a) k ≡ inside (interval a .0) (interval a .1) (keyRank n k)
+  holds-made a s e k h = go (toQueryItem pool a) refl (item-made pool (a .start) (a .end) s e) ∙ between-interval a k h
+    where
+      go : (m : MaybeItem) → toQueryItem pool a ≡ m → Made m → holdsMaybe pool m k ≡ between (boundaryOf pool (a .start)) (boundaryOf pool (a .end)) k
+      go NoItem i made = absurd made
+      go (Item q) i made = holds-converted pool (a .start) (a .end) q k i
 
   -- ---- a start that is not the first, inverted, ends just before it; an end that is not the last, inverted, starts just past it
 

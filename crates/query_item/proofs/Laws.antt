@@ -5,4 +5,4 @@ pub use Rattle.query_item.proofs.Held.{holds-between, Keeps, item-keeps
 -- ranges as intervals of ranks
 pub use Rattle.query_item.proofs.Fits.{key-fits, boundary-fits}
 pub use Rattle.query_item.proofs.Intervals.{Starts, Ends, rankIn, less-rank, at-most-rank, rank-says-in, interval, Whole, item-sides}
-pub use Rattle.query_item.proofs.Intervals.{upright-whole, whole-upright, holds-interval, invert-start, invert-end, rank-top}
+pub use Rattle.query_item.proofs.Intervals.{upright-whole, whole-upright, holds-interval, holds-made, invert-start, invert-end, rank-top}

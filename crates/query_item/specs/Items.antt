@@ -21,6 +21,8 @@ use Rattle.query_item.specs.declared.QueryItem.the-variants.{
   RangeAfterTo,
   RangeAfterToInclusive,
 }
+use Rattle.query_item.specs.declared.MaybeItem.{MaybeItem}
+use Rattle.query_item.specs.declared.MaybeItem.the-variants.{NoItem, Item}
 
 -- 01 keys.2: items name keys by offset and length in one lent pool; what reaches past the pool is not there
 abbrev pub bytesOf : List ℕ → KeyAt → List ℕ
@@ -86,6 +88,11 @@ holds pool (RangeToInclusive b) k = atMost k (bytesOf pool b)
 holds pool (RangeAfter a) k = below (bytesOf pool a) k
 holds pool (RangeAfterTo a b) k = below (bytesOf pool a) k && below k (bytesOf pool b)
 holds pool (RangeAfterToInclusive a b) k = below (bytesOf pool a) k && atMost k (bytesOf pool b)
+
+-- 01 change.2: an item that may be missing holds no key where it is missing
+abbrev pub holdsMaybe : List ℕ → MaybeItem → List ℕ → Bool
+holdsMaybe pool NoItem k = false
+holdsMaybe pool (Item q) k = holds pool q k
 
 -- ---- lists of items as words
 

@@ -1,0 +1,41 @@
+-- Pairs at the front of lent words, as a list of intervals of their own. Assumes nothing.
+use Prim.Native.Nat.{ℕ, zero, suc, _+_, _*_, _/_, _≤_}
+use mathlib.Core.Path.{_≡_}
+use mathlib.Core.List.{List}
+use native.Mathlib.Decide.{decLt}
+use native.Mathlib.Omega.{arith}
+use lib.ListN.{length, take, List·getD-eq-default}
+use lib.Seq.{length-take-le, getD-take}
+use Rattle.intervals.specs.Intervals.{Canonical}
+use Rattle.pairs_sort.specs.Pairs.{pairs}
+use Rattle.pairs_sort.proofs.Laws.{pairs-kept}
+use Rattle.position_given.specs.Given.{intervalsOf}
+use Rattle.position_given.specs.Inner.{Sound}
+use Rattle.position_given.proofs.Widths.{nonempty-at}
+
+-- the last of canonical pairs is nonempty, so that its end stands in the words
+canonical-fits : (ws : List ℕ) (m : ℕ) → Canonical (pairs ws m) → 2 * m ≤ length ws
+canonical-fits ws zero C = omega arith
+canonical-fits ws (suc k) C = elim (decLt (2 * k + 1) (length ws)) [
+  | yes h ↦ omega arith
+  | no h ↦
+      let last = nonempty-at ws (suc k) 0 k 0 C (omega arith) (omega arith) in
+      absurd (omega (arith, last, List·getD-eq-default ws 0 {n = 2 * k + 1} (omega arith)))
+]
+
+module _ (ws : List ℕ) (m : ℕ) (C : Canonical (pairs ws m)) where
+  -- canonical pairs at the front of words are the intervals of these alone
+  pub front-intervals : intervalsOf (take (2 * m) ws) ≡ pairs ws m
+  front-intervals =
+      let half : 2 * m / 2 ≡ m = omega arith in
+      rw (length-take-le (2 * m) ws (canonical-fits ws m C), half)
+      (pairs-kept ws (take (2 * m) ws) m 0
+      (λ j l k. getD-take (2 * m) ws (2 * j) 0 (omega arith))
+      (λ j l k. getD-take (2 * m) ws (2 * j + 1) 0 (omega arith)))
+
+  -- and are what accepted intervals are
+  pub front-sound : Sound (take (2 * m) ws)
+  front-sound = record {
+    even = rw (length-take-le (2 * m) ws (canonical-fits ws m C)) (omega arith);
+    canonical = rw front-intervals C;
+  }
