@@ -42,10 +42,10 @@ beside:
 attack: target/krl.log
 	tools/attack $(COUNT)
 
-# A few hundred of them, where python3 is at hand.
+# A few hundred of them, and whether the files that krl_cases runs on are as the plain reading has them, where python3 is at hand.
 attack-short:
 	@if command -v python3 >/dev/null; then \
-	    $(MAKE) --no-print-directory attack COUNT=300; \
+	    tools/cases.py check && $(MAKE) --no-print-directory attack COUNT=300; \
 	else \
 	    echo "attack-short: left out, as python3 is not at hand"; \
 	fi

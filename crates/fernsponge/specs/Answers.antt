@@ -31,7 +31,7 @@ boolNumber b = cond b 1 0
 abbrev pub isKind : ℕ → Bool
 isKind n = leb n 4
 
--- those of the two that have no key
+-- the kinds that have no key: UnboundedStart and UnboundedEnd
 abbrev pub isUnbounded : ℕ → Bool
 isUnbounded n = leb n 1
 

@@ -1,5 +1,5 @@
 -- What the check of a list accepts: whole items, not too many, each of which is sound, in order. Assumes nothing.
-use Prim.Native.Nat.{ℕ, zero, suc, _/_, _%_, _≤_}
+use Prim.Native.Nat.{ℕ, suc, _/_, _%_, _≤_}
 use mathlib.Core.Path.{_≡_, refl, sym}
 use mathlib.Core.Bool.{Bool, true, false, not, cond, _||_, true≢false}
 use mathlib.Core.List.{List, [], _∷_}

@@ -1,3 +1,2 @@
 pub mod Laws
 mod Examples
-pub mod Apart

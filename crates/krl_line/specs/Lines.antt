@@ -1,13 +1,11 @@
--- What a line ends in and answers, and the line of a refusal. Definitions only. Assumes nothing.
+-- What a line ends in, and the line of a refusal. Definitions only. Assumes nothing.
 use Prim.Native.Nat.{ℕ}
-use mathlib.Core.Bool.{cond, _||_}
+use mathlib.Core.Path.{_≡_}
+use mathlib.Core.Bool.{true, cond, _||_}
 use mathlib.Core.List.{List, [], _∷_, _++_}
-use lib.ListN.{length, drop}
-use lib.Dec.{ltb, eqb}
-use Rattle.item_check.specs.Checks.{Answer, answered, refused, refusedAs}
-use Rattle.lent_text.specs.Text.{spacedNumber}
-use Rattle.krl_line.specs.declared.Line.{Line}
-use Rattle.krl_line.specs.declared.Line.the-variants.{Bytes, Refused}
+use lib.ListN.{length}
+use lib.Dec.{eqb}
+use Rattle.lent_text.specs.Text.{spacedNumber, stored}
 
 -- 01 m7.7: every line ends in one line feed
 abbrev pub lineFeed : List ℕ
@@ -41,17 +39,8 @@ placeText number side index = cond (eqb number 6 || eqb number 10) [] (sideText 
 abbrev pub refusalLine : ℕ → ℕ → ℕ → List ℕ
 refusalLine number side index = refusedWord ++ (spacedNumber number ++ (placeText number side index ++ lineFeed))
 
--- ---- answers
+-- ---- a text at the front of lent bytes. No promise of a public call cites this (01 m7.7)
 
--- 01 no.6: the line is longer than the lent bytes; 0 and 0
-unfoldable pub lineAnswer : List ℕ → ℕ → Answer ℕ
-lineAnswer line room = cond (ltb room (length line)) (refused 6 0 0) (answered (length line))
-
--- 01 demand.1: the bytes then: the line and what stood past it, or all as they were
-unfoldable pub lineIn : List ℕ → List ℕ → List ℕ
-lineIn line out = cond (ltb (length out) (length line)) out (line ++ drop (length line) out)
-
--- 01 form.11: the paper's numbers for each case of the code's answer
-abbrev pub lineOf : Line → Answer ℕ
-lineOf (Bytes n) = answered n
-lineOf (Refused r) = refusedAs r
+-- how many bytes the text has, and the lent bytes with it stored in them as far as they go
+abbrev pub PutFront : List ℕ → List ℕ → ℕ → List ℕ → Type 0
+PutFront out text n out′ = (n ≡ length text) × (out′ ≡ stored true out 0 text)

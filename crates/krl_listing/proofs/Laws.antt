@@ -1,13 +1,13 @@
--- The lines one after the other are the listing, and a buffer of the longest line serves for every line. Assumes nothing.
-use Prim.Native.Nat.{ℕ, zero, suc, _+_, _-_, _≤_, _<_}
-use mathlib.Core.Path.{_≡_, refl, sym, ap, _∙_}
-use mathlib.Core.Bool.{Bool, true, false, cond}
+-- How many lines a listing has, and that a buffer of the longest line serves for every line. Assumes nothing.
+use Prim.Native.Nat.{ℕ, _+_, _≤_}
+use mathlib.Core.Path.{_≡_}
+use mathlib.Core.Bool.{Bool, true, false, cond, not, _||_, _&&_}
 use mathlib.Core.List.{List, [], _∷_, _++_}
-use native.Mathlib.Decide.{decLe}
 use native.Mathlib.Omega.{arith}
-use lib.ListN.{length, getD, length-append}
-use lib.Dec.{eqb}
-use borrow.Author.Tests.{le-ltb}
+use lib.ListN.{length, length-append}
+use lib.Dec.{ltb, eqb}
+use borrow.Author.Tests.{ltb-false, eqb-true, not-false}
+use Rattle.intervals.proofs.Laws.{All, all-append}
 use Rattle.query_item.specs.declared.KeyAt.{KeyAt}
 use Rattle.query_item.specs.declared.ItemWords.{ItemWords}
 use Rattle.query_item.specs.declared.QueryItem.the-variants.{
@@ -22,15 +22,14 @@ use Rattle.query_item.specs.declared.QueryItem.the-variants.{
   RangeAfterTo,
   RangeAfterToInclusive,
 }
-use Rattle.query_item.specs.Items.{bytesOf, queryItem, itemAt, itemsFrom}
-use Rattle.item_check.specs.Checks.{answered, mostKey}
-use Rattle.intersect_many.specs.declared.ManyCounts.{ManyCounts}
+use Rattle.query_item.specs.Items.{bytesOf, queryItem}
+use Rattle.item_check.specs.Checks.{mostKey, hasStart, hasEnd, written, keyOut, uprightFault}
+use Rattle.item_check.proofs.Laws.{or-false, sound-parts}
 use Rattle.lent_text.specs.Text.{spacedNumber}
 use Rattle.lent_text.proofs.Laws.{decimal-few}
 use Rattle.key_text.specs.Text.{keyText, spacedKey}
 use Rattle.key_text.proofs.Laws.{length-hex, key-some, spaced-few}
-use Rattle.krl_line.specs.Lines.{lineFeed, oursWord, theirsWord, refusedWord, placeText, refusalLine, lineAnswer}
-use Rattle.krl_line.proofs.Laws.{place-few}
+use Rattle.krl_line.specs.Lines.{lineFeed, oursWord, theirsWord}
 use Rattle.krl_listing.specs.Listing.{
   keyWord,
   rangeWord,
@@ -48,21 +47,15 @@ use Rattle.krl_listing.specs.Listing.{
   itemLine,
   sharedWord,
   titleLine,
+  itemLines,
   listLines,
   listingLines,
-  joined,
-  listing,
-  lineAt,
   mostLine,
 }
-use Rattle.krl_listing.proofs.Lines.{length-items, length-list-lines, line-title, line-item, line-shared, line-ours, line-theirs, line-none}
+use Rattle.krl_listing.proofs.Lines.{length-list-lines}
+pub use Rattle.krl_listing.proofs.Lines.{length-items}
 
--- ---- the lines one after the other
-
--- the first k lines from line i on, as `listing_line` gives them
-unfoldable pub linesFrom : List ℕ → List ℕ → List ℕ → List ℕ → ManyCounts → ℕ → ℕ → List ℕ
-linesFrom pool both mine yours n i zero = []
-linesFrom pool both mine yours n i (suc k) = lineAt pool both mine yours n i ++ linesFrom pool both mine yours n (suc i) k
+-- ---- how many lines
 
 -- there are 3 lines more than items
 pub length-listing-lines : (pool : List ℕ) (both mine yours : List ItemWords)
@@ -81,36 +74,6 @@ length-listing-lines pool both mine yours =
       length-list-lines pool theirsWord yours,
     )
 
-joined-by-index : (ls : List (List ℕ)) (f : ℕ → List ℕ) (g : ℕ → ℕ → List ℕ) → ((i : ℕ) → g i zero ≡ []) → ((i k : ℕ) → g i (suc k) ≡ f i ++ g (suc i) k)
-    → (i : ℕ) → ((j : ℕ) → j < length ls → f (i + j) ≡ getD ls j []) → g i (length ls) ≡ joined ls
-unfolding joined
-joined-by-index [] f g none more i at = none i
-joined-by-index (l ∷ ls) f g none more i at =
-    let q : i + 0 ≡ i = omega arith in
-    let first : f i ≡ l = ap f (sym q) ∙ at 0 (omega arith) in
-    more i (length ls) ∙ rw first (ap (λ (x : List ℕ). l ++ x) (joined-by-index ls f g none more (suc i) later))
-  where
-    later : (j : ℕ) → j < length ls → f (suc i + j) ≡ getD ls j []
-    later j h = let q : i + suc j ≡ suc i + j = omega arith in ap f (sym q) ∙ at (suc j) (omega arith)
-
--- the lines from the first on, all of them, are the listing
-pub lines-are-listing : (pool both mine yours : List ℕ) (n : ManyCounts)
-    → linesFrom pool both mine yours n 0 (3 + (n .«in_both» + n .ours + n .theirs))
-    ≡ listing pool (itemsFrom both 0 (n .«in_both»)) (itemsFrom mine 0 (n .ours)) (itemsFrom yours 0 (n .theirs))
-unfolding lineAt linesFrom
-lines-are-listing pool both mine yours n =
-    let B = itemsFrom both 0 (n .«in_both») in
-    let M = itemsFrom mine 0 (n .ours) in
-    let Y = itemsFrom yours 0 (n .theirs) in
-    let long : length (listingLines pool B M Y) ≡ 3 + (n .«in_both» + n .ours + n .theirs) =
-    omega (arith, length-listing-lines pool B M Y, length-items both 0 (n .«in_both»), length-items mine 0 (n .ours), length-items yours 0 (n .theirs))
-    in
-    rw (← long)
-    (joined-by-index (listingLines pool B M Y) (lineAt pool both mine yours n) (linesFrom pool both mine yours n) (λ i. refl) (λ i k. refl) 0 (at (listingLines pool B M Y)))
-  where
-    at : (ls : List (List ℕ)) (j : ℕ) → j < length ls → getD ls (0 + j) [] ≡ getD ls j []
-    at ls j h = let q : 0 + j ≡ j = omega arith in rw q
-
 -- ---- the longest line
 
 -- an item whose keys have at most 255 bytes, as every item of a checked list
@@ -118,9 +81,26 @@ pub record ShortKeys (it : ItemWords) : Type 0 where
   pub start : it .start .length ≤ mostKey
   pub end : it .end .length ≤ mostKey
 
--- such items at every index of a list
-unfoldable pub ShortList : List ℕ → ℕ → Type 0
-ShortList ws n = (i : ℕ) → i < n → ShortKeys (itemAt ws i)
+-- an item with which nothing is wrong has such keys: those that its kind does not have are 0
+pub sound-short : (pool : List ℕ) (it : ItemWords) → uprightFault pool it ≡ 0 → ShortKeys it
+sound-short pool it e =
+    let parts = sound-parts pool it e in
+    let keys = or-false (hasStart (it .code) && keyOut pool (it .start)) (hasEnd (it .code) && keyOut pool (it .end)) .0 (parts .1) in
+    let known = ltb 9 (it .code) || ltb 3 (it .wrapper) in
+    let no-start = not (hasStart (it .code)) && written (it .start) in
+    let no-end = not (hasEnd (it .code)) && written (it .end) in
+    let fourth = or-false (known || no-start) no-end .0 (parts .0) in
+    let third = or-false known no-start .0 (fourth .0) in
+    record { start = key-short (hasStart (it .code)) (it .start) (third .1) (keys .0); end = key-short (hasEnd (it .code)) (it .end) (fourth .1) (keys .1) }
+  where
+    key-short : (has : Bool) (k : KeyAt) → not has && written k ≡ false → has && keyOut pool k ≡ false → k .length ≤ mostKey
+    key-short true k w o = ltb-false mostKey (k .length) (or-false (ltb mostKey (k .length)) (ltb (length pool) (k .offset + k .length)) .0 o .0)
+    key-short false k w o =
+        let none : k .length ≡ 0 = eqb-true (k .length) 0 (not-false (eqb (k .length) 0) (or-false (not (eqb (k .offset) 0)) (not (eqb (k .length) 0)) .0 w .1)) in
+        omega arith
+
+abbrev pub Short : List ℕ → Type 0
+Short line = length line ≤ mostLine
 
 module _ (pool : List ℕ) where
   bare-few : (name : List ℕ) → length name ≤ 21 → length (bareLine name) ≤ mostLine
@@ -177,26 +157,23 @@ module _ (pool : List ℕ) where
   title-few title n h =
       omega (arith, length-append title (spacedNumber n ++ lineFeed), length-append (spacedNumber n) lineFeed, decimal-few n)
 
-  list-few : (title ws : List ℕ) (n i : ℕ) → length title ≤ 21 → ShortList ws n → i ≤ n → length (getD (listLines pool title (itemsFrom ws 0 n)) i []) ≤ mostLine
-  unfolding ShortList
-  list-few title ws n i h short k = elim (decLe i 0) [
-    | yes z ↦ rw (line-title pool title ws n i (omega arith)) (title-few title n h)
-    | no z ↦ rw (line-item pool title ws n i (omega arith) k) (item-few (itemAt ws (i - 1)) (short (i - 1) (omega arith)))
-  ]
+  items-few : (its : List ItemWords) → All ShortKeys its → All Short (itemLines pool its)
+  unfolding itemLines
+  items-few [] k = tt
+  items-few (it ∷ its) k = (item-few it (k .0), items-few its (k .1))
 
--- no line of a listing of such items is longer than the longest
-pub line-most : (pool both mine yours : List ℕ) (n : ManyCounts) → ShortList both (n .«in_both») → ShortList mine (n .ours) → ShortList yours (n .theirs)
-    → (i : ℕ) → length (lineAt pool both mine yours n i) ≤ mostLine
-line-most pool both mine yours n b m y i = elim (decLe i (n .«in_both»)) [
-  | yes s ↦ rw (line-shared pool both mine yours n i s) (list-few pool sharedWord both (n .«in_both») i (omega arith) b s)
-  | no s ↦ elim (decLe (i - n .«in_both» - 1) (n .ours)) [
-    | yes o ↦ rw (line-ours pool both mine yours n i (omega arith) o) (list-few pool oursWord mine (n .ours) (i - n .«in_both» - 1) (omega arith) m o)
-    | no o ↦ elim (decLe (i - n .«in_both» - 1 - n .ours - 1) (n .theirs)) [
-      | yes t ↦ rw (line-theirs pool both mine yours n i (omega arith) (omega arith)) (list-few pool theirsWord yours (n .theirs) (i - n .«in_both» - 1 - n .ours - 1) (omega arith) y t)
-      | no t ↦ rw (line-none pool both mine yours n i (omega arith) (omega arith) (omega arith)) (omega arith)
-    ]
-  ]
-]
+  list-few : (title : List ℕ) (its : List ItemWords) → length title ≤ 21 → All ShortKeys its → All Short (listLines pool title its)
+  unfolding listLines
+  list-few title its h k = (title-few title (length its) h, items-few its k)
+
+  -- no line of a listing of such items is longer than the longest
+  pub lines-few : (both mine yours : List ItemWords) → All ShortKeys both → All ShortKeys mine → All ShortKeys yours
+      → All Short (listingLines pool both mine yours)
+  unfolding listingLines
+  lines-few both mine yours b m y =
+      all-append Short (listLines pool sharedWord both) (listLines pool oursWord mine ++ listLines pool theirsWord yours)
+      (list-few sharedWord both (omega arith) b)
+      (all-append Short (listLines pool oursWord mine) (listLines pool theirsWord yours) (list-few oursWord mine (omega arith) m) (list-few theirsWord yours (omega arith) y))
 
 -- and an item whose two keys have 255 bytes reaches it
 pub line-longest : (pool : List ℕ) (a b : KeyAt) → length (bytesOf pool a) ≡ mostKey → length (bytesOf pool b) ≡ mostKey
@@ -214,20 +191,3 @@ line-longest pool a b h k =
   where
     full : (x : List ℕ) → length x ≡ mostKey → length (keyText x) ≡ 510
     full x e = rw (key-some x (omega arith), length-hex x) (omega arith)
-
--- no line of a refusal is longer either
-pub refusal-most : (number side index : ℕ) → length (refusalLine number side index) ≤ mostLine
-refusal-most number side index =
-    omega (
-      arith,
-      length-append refusedWord (spacedNumber number ++ (placeText number side index ++ lineFeed)),
-      length-append (spacedNumber number) (placeText number side index ++ lineFeed),
-      length-append (placeText number side index) lineFeed,
-      decimal-few number,
-      place-few number side index,
-    )
-
--- so that in a buffer of the longest line none is refused
-pub most-answered : (line : List ℕ) (room : ℕ) → length line ≤ mostLine → mostLine ≤ room → lineAnswer line room ≡ answered (length line)
-unfolding lineAnswer
-most-answered line room h k = rw (le-ltb room (length line) (omega arith))

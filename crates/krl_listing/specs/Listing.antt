@@ -116,9 +116,6 @@ unfoldable pub joined : List (List ℕ) → List ℕ
 joined [] = []
 joined (l ∷ ls) = l ++ joined ls
 
-abbrev pub listing : List ℕ → List ItemWords → List ItemWords → List ItemWords → List ℕ
-listing pool both mine yours = joined (listingLines pool both mine yours)
-
 -- 01 m7.3: the line at an index, of lists of words and their counts; past the last line there are no bytes
 unfoldable pub lineAt : List ℕ → List ℕ → List ℕ → List ℕ → ManyCounts → ℕ → List ℕ
 lineAt pool both mine yours n i =

@@ -22,8 +22,13 @@ use Rattle.position_query.specs.Covered.{firstFault}
 use Rattle.position_query.specs.Ranges.{ranges}
 use Rattle.position_report.specs.Reports.{reportOf}
 use Rattle.position_mismatch.specs.Reports.{isIn, keep, missing}
+use Rattle.lent_text.specs.Text.{digits}
+use Rattle.key_text.specs.Text.{hexDigit, hexText, keyText}
+use Rattle.krl_file.specs.File.{u16At, recordAt, recordsFrom}
+use Rattle.krl_listing.specs.Listing.{itemLine, itemLines, listLines, listingLines, joined}
+use Rattle.krl_program.specs.Program.{programAnswer, programLines}
 use Rattle.rows.specs.Rows.{Result, Row, rows}
 
 pub rows-hold : map {B = Result} (λ (r : Row). r .0) rows ≡ map (λ (r : Row). r .1) rows
-unfolding compareNumbers compareKeys compareBoundaries itemAt itemsFrom flatAll firstBad firstBreak strictVerdict meetsOf sharedOf cutsOf withoutOf meetSets leftOver rightOver convertAll sharedItems onlyItems orderItems sameItem endsBelow clashes fateOf staying merged mergedWith placed inserted firstClash inside holds piece growOf coverOf cover coverAll pairsFrom flatPairs firstTouching canonicalVerdict firstFalling ascendingVerdict countUp positionsOf be firstFault ranges isIn keep missing reportOf
+unfolding compareNumbers compareKeys compareBoundaries itemAt itemsFrom flatAll firstBad firstBreak strictVerdict meetsOf sharedOf cutsOf withoutOf meetSets leftOver rightOver convertAll sharedItems onlyItems orderItems sameItem endsBelow clashes fateOf staying merged mergedWith placed inserted firstClash inside holds piece growOf coverOf cover coverAll pairsFrom flatPairs firstTouching canonicalVerdict firstFalling ascendingVerdict countUp positionsOf be firstFault ranges isIn keep missing reportOf digits hexDigit hexText keyText u16At recordAt recordsFrom itemLine itemLines listLines listingLines joined programAnswer programLines
 rows-hold = refl

@@ -31,13 +31,16 @@ use Rattle.position_given.specs.Inner.{lastWord}
 use Rattle.position_key.specs.Keys.{keySize}
 use Rattle.position_query.specs.Covered.{queryVerdict}
 use Rattle.position_query.specs.Ranges.{coveredPairs}
+use Rattle.krl_listing.specs.Listing.{joined}
+use Rattle.krl_program.specs.Program.{programText}
 use Rattle.position_report.specs.declared.PositionMismatch.{PositionMismatch}
 use Rattle.position_mismatch.specs.Reports.{missingAnswer}
 
--- what a row gives: orders; the pair's shared part, our two leftovers and their two; the three lists; pairs of positions; yes or no; a
--- report; the list after an insertion; or a refusal
+-- what a row gives: orders; the program's text; the pair's shared part, our two leftovers and their two; the three lists; pairs of positions;
+-- yes or no; a report; the list after an insertion; or a refusal
 pub data Result : Type 0 where
   orders : List Ordering → Result
+  text : List ℕ → Result
   parts : List Shown → List Shown → List Shown → List Shown → List Shown → Result
   lists : List Shown → List Shown → List Shown → Result
   intervals : List Interval → Result
@@ -81,6 +84,27 @@ pairResult pool (refused number side index) = refusal number side index
 
 abbrev pairOf : ItemWords → ItemWords → Result
 pairOf ours theirs = pairResult digits (pairAnswer digits ours theirs)
+
+-- 01 m7.3: the file that document 01 gives, and the listing that it writes, line by line
+abbrev documentFile : List ℕ
+documentFile =
+    75 ∷ 82 ∷ 76 ∷ 0 ∷ 1 ∷ 0 ∷ 3 ∷ 0 ∷ 1 ∷ 0 ∷ 1 ∷ 1 ∷ 5 ∷ 3 ∷ 1 ∷ 0 ∷ 0 ∷ 0 ∷ 1 ∷ 0 ∷ 1 ∷ 1 ∷ 0 ∷ 0 ∷ 0 ∷ 2 ∷ 1 ∷ 0 ∷ 0 ∷ 0 ∷ []
+
+abbrev documentLines : List (List ℕ)
+documentLines =
+    -- "shared 1"
+    (115 ∷ 104 ∷ 97 ∷ 114 ∷ 101 ∷ 100 ∷ 32 ∷ 49 ∷ 10 ∷ [])
+    -- "Key 03"
+    ∷ (75 ∷ 101 ∷ 121 ∷ 32 ∷ 48 ∷ 51 ∷ 10 ∷ [])
+    -- "ours 2"
+    ∷ (111 ∷ 117 ∷ 114 ∷ 115 ∷ 32 ∷ 50 ∷ 10 ∷ [])
+    -- "Range 01 03"
+    ∷ (82 ∷ 97 ∷ 110 ∷ 103 ∷ 101 ∷ 32 ∷ 48 ∷ 49 ∷ 32 ∷ 48 ∷ 51 ∷ 10 ∷ [])
+    -- "RangeAfterTo 03 05"
+    ∷ (82 ∷ 97 ∷ 110 ∷ 103 ∷ 101 ∷ 65 ∷ 102 ∷ 116 ∷ 101 ∷ 114 ∷ 84 ∷ 111 ∷ 32 ∷ 48 ∷ 51 ∷ 32 ∷ 48 ∷ 53 ∷ 10 ∷ [])
+    -- "theirs 0"
+    ∷ (116 ∷ 104 ∷ 101 ∷ 105 ∷ 114 ∷ 115 ∷ 32 ∷ 48 ∷ 10 ∷ [])
+    ∷ []
 
 -- three outputs with room for three items
 abbrev room : List ℕ
@@ -157,7 +181,7 @@ rows =
     -- 01 P1: key 05: ExclusiveEnd < Inclusive < ExclusiveStart
     (orders (compareBoundaries (boundary ExclusiveEnd (5 ∷ [])) (boundary Inclusive (5 ∷ [])) ∷ compareBoundaries (boundary Inclusive (5 ∷ [])) (boundary ExclusiveStart (5 ∷ [])) ∷ []), orders (Less ∷ Less ∷ []))
     -- 01 P2: [01,05), Key 03: as the listing
-    ∷ (listsOf (two 1 0 4 ∷ []) (one 0 2 ∷ []), lists (key 3 ∷ []) (between 1 1 3 ∷ between 8 3 5 ∷ []) [])
+    ∷ (text (programText documentFile), text (joined documentLines))
     -- 01 P3: [01,05), [05,09]: nothing shared; ours left, theirs right
     ∷ (pairOf (two 1 0 4) (two 2 4 8), parts [] (between 1 1 5 ∷ []) [] [] (between 2 5 9 ∷ []))
     -- 01 P4: (05,09], [01,05]: nothing shared; ours right, theirs left

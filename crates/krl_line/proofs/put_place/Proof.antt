@@ -16,7 +16,7 @@ unfolding placeText
 returns c =
     let a = c .before .before .args in
     let bare : eqb (a .number) 6 || eqb (a .number) 10 ≡ true = c .if1 .taken in
-    rw bare (refl, sym (stored-none (a .write) (now (a .out)) (a .at)), omega arith)
+    rw bare (refl, sym (stored-none true (now (a .out)) (a .at)), omega arith)
 
 returns-2 : tie.Need-returns-2
 unfolding placeText
@@ -25,7 +25,7 @@ returns-2 c =
     let s = c .before .before .before .before .before .before .put-side in
     let n = c .before .before .put-spaced in
     let placed : eqb (a .number) 6 || eqb (a .number) 10 ≡ false = c .before .before .before .before .before .before .before .before .if1 .left in
-    let both = stored-next (a .write) (now (a .out)) (s .last .0) (n .last .0) (a .at) (s .result) (n .result) (sideText (a .side)) (spacedNumber (a .index)) (s .ensures .1) (s .ensures .0) (n .ensures .1) (n .ensures .0) in
+    let both = stored-next true (now (a .out)) (s .last .0) (n .last .0) (a .at) (s .result) (n .result) (sideText (a .side)) (spacedNumber (a .index)) (s .ensures .1) (s .ensures .0) (n .ensures .1) (n .ensures .0) in
     rw placed (both .0, both .1, omega (arith, s .ensures .2, n .ensures .2))
 
 pub put-place-spec : {M : Type 1} → statement M

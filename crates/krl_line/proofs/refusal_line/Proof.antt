@@ -1,34 +1,35 @@
--- `refusal_line` meets its contract: 6, or the line. Assumes nothing.
+-- `refusal_line` meets its contract. Assumes nothing.
+use mathlib.Core.Path.{refl}
+use mathlib.Core.Bool.{true}
 use denote.Ref.{now}
-use Rattle.krl_line.specs.Lines.{refusalLine}
-use Rattle.krl_line.proofs.Laws.{line-refused, line-answered}
+use Rattle.lent_text.specs.Text.{spacedNumber}
+use Rattle.krl_line.specs.Lines.{lineFeed, refusedWord, placeText}
+use Rattle.lent_text.proofs.Laws.{stored-four}
 use borrow.Author.Needs.{needs}
 use Rattle.krl_line.proofs.refusal_line.Statement.{statement}
 use Rattle.krl_line.proofs.refusal_line.Tie as tie
 
 returns : tie.Need-returns
 returns c =
-    let a = c .before .before .before .before .before .before .before .args in
-    let r = a .refusal in
-    let p = c .before .before .before .before .put-refusal in
-    line-refused (refusalLine (r .number) (r .side) (r .index)) (now (a .out)) (p .last .0) (p .result) _ (p .ensures .0) (p .kept .0) (p .ensures .1) (c .before .if1 .taken) (c .no-room .ensures)
-
-returns-2 : tie.Need-returns-2
-returns-2 c =
-    let a = c .before .before .before .before .before .before .before .before .before .before .args in
-    let r = a .refusal in
-    let p = c .before .before .before .before .before .before .before .put-refusal in
-    let q = c .before .before .put-refusal2 in
-    line-answered (refusalLine (r .number) (r .side) (r .index)) (now (a .out)) (p .last .0) (q .last .0) (p .result) (q .result) (p .ensures .0) (p .kept .0) (p .ensures .1) (c .before .before .before .before .if1 .left) (q .ensures .0) (q .ensures .1)
+    let a = c .before .before .before .before .before .before .before .before .before .before .before .before .before .before .before .before .before .before .args in
+    let t = c .before .before .before .before .before .before .before .before .before .before .before .before .before .before .put-text in
+    let n = c .before .before .before .before .before .before .before .before .before .before .put-spaced in
+    let s = c .before .before .before .before .before .before .put-place in
+    let p = c .before .before .put in
+    stored-four true (now (a .out)) (t .last .0) (n .last .0) (s .last .0) (p .last .0) (t .result) (n .result) (s .result) 1 refusedWord (spacedNumber (a .refusal .number)) (placeText (a .refusal .number) (a .refusal .side) (a .refusal .index)) lineFeed (t .ensures .1) (t .ensures .0) (n .ensures .1) (n .ensures .0) (s .ensures .1) (s .ensures .0) (p .ensures) refl
 
 pub refusal-line-spec : {M : Type 1} → statement M
 refusal-line-spec =
     tie.close
     (tie.spec
-    (λ c κs. search needs)
+    (λ c. search needs)
     (λ c κs. search needs)
     (λ c. search needs)
-    returns
     (λ c κs. search needs)
     (λ c. search needs)
-    returns-2)
+    (λ c κs. search needs)
+    (λ c. search needs)
+    (λ c κs. search needs)
+    (λ c. search needs)
+    (λ c. search needs)
+    returns)

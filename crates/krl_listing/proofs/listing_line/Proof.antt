@@ -1,7 +1,9 @@
--- `listing_line` meets its contract: 6, or the line. Assumes nothing.
+-- `listing_line` meets its contract: the list that has the line, or none. Assumes nothing.
+use mathlib.Core.Path.{refl, sym}
+use mathlib.Core.Bool.{true}
 use denote.Ref.{now}
-use Rattle.krl_listing.specs.Listing.{lineAt}
-use Rattle.krl_line.proofs.Laws.{line-refused, line-answered}
+use Rattle.lent_text.proofs.Laws.{stored-none}
+use Rattle.krl_listing.proofs.Lines.{line-shared, line-ours, line-theirs, line-none}
 use borrow.Author.Needs.{needs}
 use Rattle.krl_listing.proofs.listing_line.Statement.{statement}
 use Rattle.krl_listing.proofs.listing_line.Tie as tie
@@ -9,24 +11,41 @@ use Rattle.krl_listing.proofs.listing_line.Tie as tie
 returns : tie.Need-returns
 returns c =
     let a = c .before .before .before .before .before .before .before .before .before .before .before .args in
-    let p = c .before .before .before .before .put-line in
-    line-refused (lineAt (now (a .pool)) (now (a .both)) (now (a .mine)) (now (a .yours)) (a .counts) (a .i)) (now (a .out)) (p .last .0) (p .result) _ (p .ensures .0) (p .kept .0) (p .ensures .1) (c .before .if1 .taken) (c .no-room .ensures)
+    rw (line-shared (now (a .pool)) (now (a .both)) (now (a .mine)) (now (a .yours)) (a .counts) (a .i) (c .before .before .before .before .before .if1 .taken)) (c .before .before .put-of-list .ensures)
 
 returns-2 : tie.Need-returns-2
 returns-2 c =
-    let a = c .before .before .before .before .before .before .before .before .before .before .before .before .before .before .args in
-    let p = c .before .before .before .before .before .before .before .put-line in
-    let q = c .before .before .put-line2 in
-    line-answered (lineAt (now (a .pool)) (now (a .both)) (now (a .mine)) (now (a .yours)) (a .counts) (a .i)) (now (a .out)) (p .last .0) (q .last .0) (p .result) (q .result) (p .ensures .0) (p .kept .0) (p .ensures .1) (c .before .before .before .before .if1 .left) (q .ensures .0) (q .ensures .1)
+    let a = c .before .before .before .before .before .before .before .before .before .before .before .before .args in
+    rw (line-ours (now (a .pool)) (now (a .both)) (now (a .mine)) (now (a .yours)) (a .counts) (a .i) (c .before .before .before .before .before .before .if1 .left) (c .before .before .before .before .before .if2 .taken)) (c .before .before .put-of-list2 .ensures)
+
+returns-3 : tie.Need-returns-3
+returns-3 c =
+    let a = c .before .before .before .before .before .before .before .before .before .before .before .before .before .args in
+    rw (line-theirs (now (a .pool)) (now (a .both)) (now (a .mine)) (now (a .yours)) (a .counts) (a .i) (c .before .before .before .before .before .before .before .if1 .left) (c .before .before .before .before .before .before .if2 .left)) (c .before .before .put-of-list3 .ensures)
+
+returns-4 : tie.Need-returns-4
+returns-4 c =
+    let a = c .before .before .before .before .before .before .before .before .args in
+    rw (line-none (now (a .pool)) (now (a .both)) (now (a .mine)) (now (a .yours)) (a .counts) (a .i) (c .before .before .if1 .left) (c .before .if2 .left) (c .if3 .left)) (refl, sym (stored-none true (now (a .out)) 0))
 
 pub listing-line-spec : {M : Type 1} → statement M
 listing-line-spec =
     tie.close
     (tie.spec
-    (λ c κs. search needs)
+    (λ c. search needs)
     (λ c κs. search needs)
     (λ c. search needs)
     returns
+    (λ c. search needs)
+    (λ c. search needs)
+    (λ c. search needs)
     (λ c κs. search needs)
     (λ c. search needs)
-    returns-2)
+    returns-2
+    (λ c. search needs)
+    (λ c. search needs)
+    (λ c. search needs)
+    (λ c κs. search needs)
+    (λ c. search needs)
+    returns-3
+    returns-4)

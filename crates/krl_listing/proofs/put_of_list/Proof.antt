@@ -1,4 +1,5 @@
 -- `put_of_list` meets its contract: the title, or the item before the index. Assumes nothing.
+use mathlib.Core.Bool.{true}
 use denote.Ref.{now}
 use Rattle.krl_listing.proofs.Lines.{line-title, item-stored}
 use borrow.Author.Needs.{needs}
@@ -13,7 +14,7 @@ returns c =
 returns-2 : tie.Need-returns-2
 returns-2 c =
     let a = c .before .before .before .before .before .before .before .before .before .before .before .args in
-    item-stored (now (a .pool)) (now (a .title)) (now (a .words)) (a .count) (a .i) (c .before .before .before .before .before .before .if1 .left) (c .before .before .before .before .before .before .before .before .before .before .before .pre .1) (a .write) (now (a .out)) (c .before .before .put-item .last .0) (c .before .before .put-item .result) (c .before .before .before .before .item-at .result) (c .before .before .before .query-item .result) (c .before .before .before .before .item-at .ensures) (c .before .before .before .query-item .ensures) (c .before .before .put-item .ensures)
+    item-stored (now (a .pool)) (now (a .title)) (now (a .words)) (a .count) (a .i) (c .before .before .before .before .before .before .if1 .left) (c .before .before .before .before .before .before .before .before .before .before .before .pre .1) true (now (a .out)) (c .before .before .put-item .last .0) (c .before .before .put-item .result) (c .before .before .before .before .item-at .result) (c .before .before .before .query-item .result) (c .before .before .before .before .item-at .ensures) (c .before .before .before .query-item .ensures) (c .before .before .put-item .ensures)
 
 pub put-of-list-spec : {M : Type 1} → statement M
 put-of-list-spec =

@@ -1,5 +1,6 @@
 -- `put_one` meets its contract. Assumes nothing.
 use mathlib.Core.Path.{refl}
+use mathlib.Core.Bool.{true}
 use denote.Ref.{now}
 use Rattle.lent_text.proofs.Laws.{stored-three}
 use Rattle.key_text.specs.Text.{spacedKey}
@@ -14,7 +15,7 @@ returns c =
     let t = c .before .before .before .before .before .before .before .before .before .before .put-text in
     let k = c .before .before .before .before .before .before .put-key in
     let p = c .before .before .put in
-    stored-three (a .write) (now (a .out)) (t .last .0) (k .last .0) (p .last .0) (t .result) (k .result) 1 (now (a .name)) (spacedKey (now (a .pool)) (a .key)) lineFeed (t .ensures .1) (t .ensures .0) (k .ensures .1) (k .ensures .0) (p .ensures) refl
+    stored-three true (now (a .out)) (t .last .0) (k .last .0) (p .last .0) (t .result) (k .result) 1 (now (a .name)) (spacedKey (now (a .pool)) (a .key)) lineFeed (t .ensures .1) (t .ensures .0) (k .ensures .1) (k .ensures .0) (p .ensures) refl
 
 pub put-one-spec : {M : Type 1} → statement M
 put-one-spec =

@@ -1,5 +1,6 @@
 -- `put_title` meets its contract. Assumes nothing.
 use mathlib.Core.Path.{refl}
+use mathlib.Core.Bool.{true}
 use denote.Ref.{now}
 use Rattle.lent_text.specs.Text.{spacedNumber}
 use Rattle.lent_text.proofs.Laws.{stored-three}
@@ -14,7 +15,7 @@ returns c =
     let t = c .before .before .before .before .before .before .before .before .before .before .put-text in
     let n = c .before .before .before .before .before .before .put-spaced in
     let p = c .before .before .put in
-    stored-three (a .write) (now (a .out)) (t .last .0) (n .last .0) (p .last .0) (t .result) (n .result) 1 (now (a .title)) (spacedNumber (a .count)) lineFeed (t .ensures .1) (t .ensures .0) (n .ensures .1) (n .ensures .0) (p .ensures) refl
+    stored-three true (now (a .out)) (t .last .0) (n .last .0) (p .last .0) (t .result) (n .result) 1 (now (a .title)) (spacedNumber (a .count)) lineFeed (t .ensures .1) (t .ensures .0) (n .ensures .1) (n .ensures .0) (p .ensures) refl
 
 pub put-title-spec : {M : Type 1} → statement M
 put-title-spec =

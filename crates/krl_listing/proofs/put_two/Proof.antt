@@ -1,5 +1,6 @@
 -- `put_two` meets its contract. Assumes nothing.
 use mathlib.Core.Path.{refl}
+use mathlib.Core.Bool.{true}
 use denote.Ref.{now}
 use Rattle.lent_text.proofs.Laws.{stored-four}
 use Rattle.key_text.specs.Text.{spacedKey}
@@ -15,7 +16,7 @@ returns c =
     let k = c .before .before .before .before .before .before .before .before .before .before .put-key in
     let e = c .before .before .before .before .before .before .put-key2 in
     let p = c .before .before .put in
-    stored-four (a .write) (now (a .out)) (t .last .0) (k .last .0) (e .last .0) (p .last .0) (t .result) (k .result) (e .result) 1 (now (a .name)) (spacedKey (now (a .pool)) (a .start)) (spacedKey (now (a .pool)) (a .end)) lineFeed (t .ensures .1) (t .ensures .0) (k .ensures .1) (k .ensures .0) (e .ensures .1) (e .ensures .0) (p .ensures) refl
+    stored-four true (now (a .out)) (t .last .0) (k .last .0) (e .last .0) (p .last .0) (t .result) (k .result) (e .result) 1 (now (a .name)) (spacedKey (now (a .pool)) (a .start)) (spacedKey (now (a .pool)) (a .end)) lineFeed (t .ensures .1) (t .ensures .0) (k .ensures .1) (k .ensures .0) (e .ensures .1) (e .ensures .0) (p .ensures) refl
 
 pub put-two-spec : {M : Type 1} → statement M
 put-two-spec =
