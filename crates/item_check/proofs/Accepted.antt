@@ -52,13 +52,15 @@ answers (refused n s i) a p e = absurd (let z : _≡_ {A = ℕ} 0 1 = cc in omeg
 -- an item that nothing of 1, 2, 3 is wrong with
 pub sound-parts : (pool : List ℕ) (it : ItemWords) → uprightFault pool it ≡ 0
     → (malformed it ≡ false) × (outside pool it ≡ false) × (upright pool (rangeOf it) ≡ true)
-sound-parts pool it e = go (malformed it) (outside pool it) (upright pool (rangeOf it)) e
+sound-parts pool it e = go (malformed it) (outside pool it) (upright pool (rangeOf it)) refl refl refl
   where
-    go : (m o t : Bool) → _≡_ {A = ℕ} (cond m 1 (cond o 2 (cond t 0 3))) 0 → (m ≡ false) × (o ≡ false) × (t ≡ true)
-    go true o t e = absurd (omega arith)
-    go false true t e = absurd (omega arith)
-    go false false true e = (refl, refl, refl)
-    go false false false e = absurd (omega arith)
+    go : (m o t : Bool) → malformed it ≡ m → outside pool it ≡ o → upright pool (rangeOf it) ≡ t
+        → (malformed it ≡ false) × (outside pool it ≡ false) × (upright pool (rangeOf it) ≡ true)
+    go true true t p q r = absurd (omega (arith, simp (p, q) at e))
+    go true false t p q r = absurd (omega (arith, simp (p, q) at e))
+    go false true t p q r = absurd (omega (arith, simp (p, q) at e))
+    go false false true p q r = (p, q, r)
+    go false false false p q r = absurd (omega (arith, simp (p, q, r) at e))
 
 tested : (t : Bool) (v : Verdict) (n s i : ℕ) → cond t v (refused n s i) ≡ accepted ↔ ((t ≡ true) × (v ≡ accepted))
 tested true v n s i = (λ e. (refl, e), λ e. e .1)
