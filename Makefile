@@ -4,6 +4,7 @@ RUN ?= long $(CURDIR)/docs/COMPARISON.md
 # What the program is shown on, and how many damaged files it is tried on.
 FILE ?= samples/document.krl
 COUNT ?= 10000
+EARLIER ?=
 # cargo by itself: it takes no part in make's own share of the cores.
 CARGO := env -u MAKEFLAGS -u MFLAGS cargo
 
@@ -91,9 +92,11 @@ link-rust: lib
 	$(CARGO) test --quiet --offline --manifest-path rust/Cargo.toml
 	$(CARGO) run --quiet --offline --manifest-path rust/Cargo.toml --example lanes -- samples/ours.lanes samples/theirs.lanes | diff - crates/krl/stdout
 
-# Both sides timed in one run, some five minutes; the tables go to docs/BENCHMARKS.md, and the chart to docs/benchmarks.svg.
+# Both sides timed in one run, some five minutes; the tables go to docs/BENCHMARKS.md, and the chart to docs/benchmarks.svg. EARLIER names a
+# libfernsponge.a that was kept from before a change: the three lists are then timed beside it too.
 bench: lib
-	GROVEDB_SRC="$(GROVEDB_SRC)" $(CARGO) run --quiet --release --offline --manifest-path compare/Cargo.toml --bin bench -- "$(CURDIR)/docs"
+	@[ -z "$(EARLIER)" ] || tools/earlier "$(EARLIER)"
+	GROVEDB_SRC="$(GROVEDB_SRC)" EARLIER_LIBS="$(if $(EARLIER),target/earlier)" $(CARGO) run --quiet --release --offline --manifest-path compare/Cargo.toml --bin bench -- "$(CURDIR)/docs"
 
 # The Rust's answers that the programs vectors_.. replay, made anew.
 record:

@@ -1,5 +1,6 @@
 //! Brings the Rust of dashpay/grovedb into the build. Nothing of that Rust is kept in the repository: its files are copied to OUT_DIR,
-//! unchanged but for query_item/mod.rs, from which the parts that lean on bincode and serde are cut.
+//! unchanged but for query_item/mod.rs, from which the parts that lean on bincode and serde are cut. And links an earlier library of ours, where
+//! one is named, for the benchmark alone.
 
 use std::{
     env, fs,
@@ -34,10 +35,27 @@ mod query_item;
 ";
 
 fn main() {
-    if let Err(text) = bring_rust() {
+    if let Err(text) = bring_rust().and_then(|()| bring_earlier()) {
         eprintln!("compare: {text}");
         exit(1);
     }
+}
+
+/// The two libraries that `tools/earlier` has made, in the folder that EARLIER_LIBS names, if it names one.
+fn bring_earlier() -> Result<(), String> {
+    println!("cargo:rerun-if-env-changed=EARLIER_LIBS");
+    let Some(name) = env::var_os("EARLIER_LIBS").filter(|name| !name.is_empty()) else {
+        return Ok(());
+    };
+    let folder = PathBuf::from(variable("CARGO_MANIFEST_DIR")?)
+        .join("..")
+        .join(name);
+    println!("cargo:rerun-if-changed={}", folder.display());
+    println!("cargo:rustc-link-search=native={}", folder.display());
+    println!("cargo:rustc-link-lib=static=ours");
+    println!("cargo:rustc-link-lib=static=earlier");
+    println!("cargo:rustc-cfg=earlier");
+    Ok(())
 }
 
 fn bring_rust() -> Result<(), String> {

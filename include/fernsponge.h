@@ -128,7 +128,8 @@ uint64_t fernsponge_intersect_items(const uint8_t *pool, size_t pool_length, con
                                     uint32_t theirs_left[FERNSPONGE_MAYBE_WORDS], uint32_t theirs_right[FERNSPONGE_MAYBE_WORDS]);
 
 /* What two lists share, what only ours holds and what only theirs holds, each at the front of the words lent for it; the words past them stay.
- * counts has the items of each. As much room as both lists have together is always enough for each. */
+ * counts has the items of each. As much room as both lists have together is always enough for each. Every item of them holds a key: what lies
+ * below the empty key, and what lies between a key and that key with a zero byte appended, is in none of them. */
 uint64_t fernsponge_intersect_many(const uint8_t *pool, size_t pool_length, const uint32_t *ours, size_t ours_length,
                                    const uint32_t *theirs, size_t theirs_length, uint32_t *both, size_t both_length, uint32_t *mine,
                                    size_t mine_length, uint32_t *yours, size_t yours_length, uint64_t counts[3]);

@@ -33,6 +33,14 @@ def longest():
     return file_of(pool, [(9, 0, (0, 255), (255, 255))], [])
 
 
+def keyless():
+    """RangeTo - and [01,09] of ours; (05,05 00), (09,09 00) and RangeFrom 09 00 of theirs."""
+    pool = bytes((1, 5, 0, 9, 0))
+    ours = [(5, 0, NONE, (0, 0)), (2, 0, (0, 1), (3, 1))]
+    theirs = [(8, 0, (1, 1), (1, 2)), (8, 0, (3, 1), (3, 2)), (4, 0, (3, 2), NONE)]
+    return file_of(pool, ours, theirs)
+
+
 CASES = (
     # 01 m7.3: the document's own input; P7 and P8
     ("document", file_of(bytes((1, 5, 3)), [(1, 0, (0, 1), (1, 1))], [(0, 0, (2, 1), NONE)])),
@@ -40,7 +48,9 @@ CASES = (
     ("P8", file_of(DIGITS, [], [key(4)])),
     # every kind of item, wrapped ones and the empty key among them
     ("kinds", file_of(DIGITS, [(5, 1, NONE, (0, 0)), key(1), two(1, 2, 3), (8, 2, at(4), at(6)), (9, 0, at(6), at(7)), (7, 3, at(8), NONE)], [(6, 0, NONE, at(2)), two(2, 5, 9)])),
-    ("full", file_of(DIGITS, [(3, 0, NONE, NONE)], [(4, 0, (0, 0), NONE)])),
+    # 02 §2.4: P6's two items as lists; and of each kind of range that holds no key, one by itself and one that cuts
+    ("P6", file_of(DIGITS, [(3, 0, NONE, NONE)], [(4, 0, (0, 0), NONE)])),
+    ("keyless", keyless()),
     ("longest", longest()),
     # refused: an unknown code; a key past the pool; an item that is not upright; items that touch; 2,049 pieces; a byte too many
     ("refused_1", file_of(DIGITS, [key(1), two(10, 2, 3)], [])),

@@ -1,4 +1,5 @@
-"""A plain reading of document 01's module 7: the text that the program writes of a file, item by item and list by list, with no thought of speed.
+"""A plain reading of document 01's module 7, with section 2 of document 02: the text that the program writes of a file, item by item and list by
+list, with no thought of speed.
 
 A boundary is (0,) for UnboundedStart, (2,) for UnboundedEnd, and (1, key, rung) for the others, so that Python's order of tuples is the
 document's. A range is its two boundaries.
@@ -99,6 +100,18 @@ def without(ours, theirs):
     return ours
 
 
+def holds_no_key(low, high):
+    """Below the empty key, or past a key and below the same one with a zero byte behind it."""
+    if low == LOWEST:
+        return high == (1, b"", EXCLUSIVE_END)
+    return low[2] == EXCLUSIVE_START and high == (1, low[1] + b"\0", EXCLUSIVE_END)
+
+
+def with_keys(ranges):
+    """Those that hold a key: no others stand in a result list."""
+    return [r for r in ranges if not holds_no_key(*r)]
+
+
 def item_line(low, high):
     """The item of two boundaries, by its name and its keys."""
     start, end = (None if len(boundary) == 1 else boundary[2] for boundary in (low, high))
@@ -117,7 +130,8 @@ def text_of(file):
         records = [file[at : at + RECORD] for at in range(HEAD + len(pool), len(file), RECORD)]
         ours = ranges_of(pool, records[: number(file, 7)], 0)
         theirs = ranges_of(pool, records[number(file, 7) :], 1)
-        lists = ("shared", [s for a in ours for b in theirs for s in shared(a, b)]), ("ours", without(ours, theirs)), ("theirs", without(theirs, ours))
+        all_shared = [s for a in ours for b in theirs for s in shared(a, b)]
+        lists = ("shared", with_keys(all_shared)), ("ours", with_keys(without(ours, theirs))), ("theirs", with_keys(without(theirs, ours)))
         if any(len(ranges) > MOST_ITEMS for _, ranges in lists):
             raise Refused(6)
         return "".join(f"{name} {len(ranges)}\n" + "".join(item_line(*r) for r in ranges) for name, ranges in lists)
@@ -135,7 +149,9 @@ def file_of(pool, ours, theirs):
     return head + pool + records
 
 
-def pieces(keys):
-    """A file of a full range against so many keys of two bytes, which cut it into one piece more."""
+def pieces(keys, empty=False):
+    """A file of a full range against so many keys of two bytes, which cut it into one piece more. With the empty key before them it is cut once more,
+    and what is below that key holds none: as many pieces are left."""
     pool = b"".join(key.to_bytes(2, "big") for key in range(keys))
-    return file_of(pool, [(3, 0, (0, 0), (0, 0))], [(0, 0, (2 * key, 2), (0, 0)) for key in range(keys)])
+    first = [(0, 0, (0, 0), (0, 0))] if empty else []
+    return file_of(pool, [(3, 0, (0, 0), (0, 0))], first + [(0, 0, (2 * key, 2), (0, 0)) for key in range(keys)])

@@ -5,13 +5,15 @@ use crate::{
     timing::{calls, least, prepared},
 };
 use compare::{
+    algebra::rust::keyed,
+    earlier::{Call, CALLS},
     fernsponge,
     inputs::{alike_keys, damage, disorder, early_keys, Keys},
     items::{read, Words},
     random::Random,
     QueryItem, SEED,
 };
-use std::hint::black_box;
+use std::{array::from_fn, hint::black_box};
 
 pub const LENGTHS: [usize; 3] = [8, 32, 200];
 pub const SIZES: [usize; 8] = [16, 32, 64, 128, 256, 512, 1_024, 2_048];
@@ -83,19 +85,93 @@ pub fn run(sizes: &[usize]) -> Vec<Timed> {
     all
 }
 
+/// Two lists of items of one kind.
+fn two_lists(
+    arrangement: Arrangement,
+    items: usize,
+    kind: u32,
+    keys: &[[u32; 2]],
+) -> [Vec<u32>; 2] {
+    [0, 1].map(|side| {
+        let item = |at| {
+            let [from, to] = arrangement.ends(items, at)[side].map(|end| keys[end]);
+            [kind, 0, from[0], from[1], to[0], to[1]]
+        };
+        (0..items).flat_map(item).collect()
+    })
+}
+
+/// The least times of one call on lists of so many items of a kind, ours and an earlier library's, in nanoseconds.
+pub struct Earlier {
+    pub length: usize,
+    pub arrangement: Arrangement,
+    pub kind: &'static str,
+    pub items: usize,
+    pub ours: f64,
+    pub earlier: f64,
+}
+
+/// A few hundredths are looked for beside an earlier library: so many times the runs of other rows.
+const TURNS: usize = 8;
+
+/// Ours beside an earlier library, where there is one: items that hold their start, and items open at both ends.
+pub fn beside_earlier(items: usize) -> Vec<Earlier> {
+    let Some([ours, earlier]) = CALLS else {
+        return vec![];
+    };
+    let mut all = vec![];
+    for length in LENGTHS {
+        for arrangement in ARRANGEMENTS {
+            for (code, kind) in [(1, "Range"), (2, "RangeInclusive"), (8, "RangeAfterTo")] {
+                let (pool, keys) = alike_keys(length, 4 * items);
+                let [x, y] = &two_lists(arrangement, items, code, &keys);
+                let pool = &pool;
+                hold_both([ours, earlier], pool, x, y);
+                let side = |call: Call| {
+                    let mut lent = Lent::new(x, y);
+                    calls(move || {
+                        let (words, counts) = lent.lend();
+                        call(black_box(pool), x, y, words, counts)
+                    })
+                };
+                let turns: [_; TURNS] = from_fn(|_| least([side(ours), side(earlier)]));
+                let [ours, earlier] = [0, 1].map(|at| {
+                    turns
+                        .map(|turn| turn[at])
+                        .into_iter()
+                        .fold(f64::MAX, f64::min)
+                });
+                all.push(Earlier {
+                    length,
+                    arrangement,
+                    kind,
+                    items,
+                    ours,
+                    earlier,
+                });
+            }
+        }
+    }
+    all
+}
+
+/// Both libraries answer, and leave the same.
+fn hold_both(both: [Call; 2], pool: &[u8], ours: &[u32], theirs: &[u32]) {
+    let [one, other] = both.map(|call| {
+        let mut lent = Lent::new(ours, theirs);
+        let (words, counts) = lent.lend();
+        assert_eq!(call(pool, ours, theirs, words, counts), 0);
+        lent
+    });
+    assert_eq!(one, other, "{ours:?} and {theirs:?}");
+}
+
 fn timed(length: usize, alike: bool, arrangement: Arrangement, items: usize) -> Timed {
     let (pool, keys) = match alike {
         true => alike_keys(length, 4 * items),
         false => early_keys(&mut Random::new(SEED), length, 4 * items),
     };
-    let list = |side: usize| -> Vec<u32> {
-        let item = |at| {
-            let [from, to] = arrangement.ends(items, at)[side].map(|end| keys[end]);
-            [1, 0, from[0], from[1], to[0], to[1]]
-        };
-        (0..items).flat_map(item).collect()
-    };
-    let (ours, theirs) = (list(0), list(1));
+    let [ours, theirs] = two_lists(arrangement, items, 1, &keys);
     hold(&pool, &ours, &theirs);
     let [our_items, their_items] = [&ours, &theirs].map(|words| read_all(words, &pool));
     if items <= MOST_HELD {
@@ -168,7 +244,7 @@ fn read_all(words: &[u32], pool: &[u8]) -> Vec<QueryItem> {
         .collect()
 }
 
-/// The Rust shares, and leaves of ours, what our call does. Its theirs-only is another list (D8).
+/// The Rust shares, and leaves of ours, what our call does, but for what holds no key (D19). Its theirs-only is another list (D8).
 fn hold_rust(pool: &[u8], [ours, theirs]: [&[u32]; 2], items: [&[QueryItem]; 2]) {
     let mut lent = Lent::new(ours, theirs);
     let (words, counts) = lent.lend();
@@ -178,7 +254,7 @@ fn hold_rust(pool: &[u8], [ours, theirs]: [&[u32]; 2], items: [&[QueryItem]; 2])
         read_all(&lent.words[at][..words], pool)
     });
     let rust = QueryItem::intersect_many_ordered(&mut items[0].to_vec(), items[1].to_vec());
-    let rust = [rust.in_both, rust.ours].map(Option::unwrap_or_default);
+    let rust = [rust.in_both, rust.ours].map(|list| keyed(&list.unwrap_or_default()));
     assert_eq!([shared, only], rust, "{ours:?} and {theirs:?}");
 }
 

@@ -63,6 +63,10 @@ fn lower(kilobytes: u32, measure: &dyn Fn() -> Measured) -> Measured {
 fn measure(sizes: &[usize]) -> Measured {
     Measured {
         lists: lists::run(sizes),
+        earlier: sizes
+            .iter()
+            .max()
+            .map_or(vec![], |items| lists::beside_earlier(*items)),
         key_comparison: others::key_comparison(),
         insertion: others::insertion(),
         building: others::building(),

@@ -1,10 +1,15 @@
 //! What a run says: tables of the least times with their ratios, and each target.
 
-use crate::{lists::Timed, others::Line};
+use crate::{
+    lists::{Earlier, Timed},
+    others::Line,
+};
 use compare::table::grouped;
 
 pub struct Measured {
     pub lists: Vec<Timed>,
+    /// none where no earlier library was named
+    pub earlier: Vec<Earlier>,
     pub key_comparison: Vec<Line>,
     pub insertion: Vec<Line>,
     pub building: Vec<Line>,
@@ -19,6 +24,10 @@ impl Measured {
             one.rust = one.rust.min(two.rust);
             one.trusting = one.trusting.min(two.trusting);
             one.checking = one.checking.min(two.checking);
+        }
+        for (one, two) in self.earlier.iter_mut().zip(other.earlier) {
+            one.ours = one.ours.min(two.ours);
+            one.earlier = one.earlier.min(two.earlier);
         }
         for (lines, others) in [
             (&mut self.key_comparison, other.key_comparison),
@@ -66,6 +75,17 @@ beside that of half as many items.
 |--:|---|--:|--:|--:|--:|--:|--:|--:|--:|--:|
 ";
 
+const EARLIER: &str = "
+## The three lists beside an earlier library
+
+`make bench EARLIER=FILE` times the library that FILE is beside ours, in one run: what a change of the lists has cost. Functions of both begin
+at multiples of 64 bytes, since where they come to lie decides more than that. Items are of one kind; keys begin alike. Each row has eight times
+the runs of the others, and still swings by some hundredths from run to run.
+
+| keys | lists | kind | items | ours | earlier | ours / earlier |
+|--:|---|---|--:|--:|--:|--:|
+";
+
 const LINES: &str = "
 | | ours | the Rust | the Rust / ours |
 |---|--:|--:|--:|
@@ -99,6 +119,21 @@ pub fn text(measured: &Measured) -> String {
             times(timed.rust / timed.ours),
             two(timed.ours / timed.trusting),
             two(timed.ours / timed.checking),
+        );
+    }
+    if !measured.earlier.is_empty() {
+        text += EARLIER;
+    }
+    for row in &measured.earlier {
+        text += &format!(
+            "| {} | {} | {} | {} | {} | {} | {} |\n",
+            row.length,
+            row.arrangement.name(),
+            row.kind,
+            grouped(row.items as u64),
+            time(row.ours),
+            time(row.earlier),
+            two(row.ours / row.earlier),
         );
     }
     for (title, lines) in [
@@ -217,6 +252,11 @@ fn targets(measured: &Measured) -> Vec<Target> {
         ),
         most("twice the items at most 2.3 times the time", 2.3, grown),
         most(
+            "the three lists within 1.03 times an earlier library, the mean of each kind of item",
+            1.03,
+            kinds(&measured.earlier).into_iter(),
+        ),
+        most(
             "building positions within 3 times of the Rust",
             3.0,
             measured.building.iter().filter_map(ratio),
@@ -232,6 +272,20 @@ fn targets(measured: &Measured) -> Vec<Target> {
     ];
     targets.retain(|target| !target.of.is_empty());
     targets
+}
+
+/// The mean of our times beside an earlier library's, for each kind of item.
+fn kinds(rows: &[Earlier]) -> Vec<(f64, String)> {
+    let mut kinds: Vec<&str> = rows.iter().map(|row| row.kind).collect();
+    kinds.sort_unstable();
+    kinds.dedup();
+    let mean = |kind: &str| {
+        let of = rows.iter().filter(|row| row.kind == kind);
+        let ratios: Vec<f64> = of.map(|row| row.ours / row.earlier).collect();
+        let mean = ratios.iter().sum::<f64>() / ratios.len() as f64;
+        (mean, format!("{kind}, {} rows", ratios.len()))
+    };
+    kinds.into_iter().map(mean).collect()
 }
 
 fn least(text: &'static str, bound: f64, of: impl Iterator<Item = (f64, String)>) -> Target {

@@ -107,8 +107,24 @@ fn item(range: Range) -> [u32; SIZE] {
     [code, 0, a, b, c, d]
 }
 
+/// Below the empty key, or past a key and below the same one with a zero byte behind it (02 §2.2).
+fn holds_no_key(range: &Range) -> bool {
+    match (range.start, range.end) {
+        (Boundary::Lowest, Boundary::Key(b)) => b.kind == BEFORE && b.key.is_empty(),
+        (Boundary::Key(a), Boundary::Key(b)) if a.kind == AFTER && b.kind == BEFORE => {
+            b.key.split_last() == Some((&0, a.key))
+        }
+        _ => false,
+    }
+}
+
 /// Hands on the items of the three lists: 0 shared, 1 ours only, 2 theirs only.
 fn sweep<'a>(pool: &'a [u8], ours: &[u32], theirs: &[u32], mut put: impl FnMut(usize, Range<'a>)) {
+    let mut put = |list, range| {
+        if !holds_no_key(&range) {
+            put(list, range);
+        }
+    };
     let mut ours = ours.chunks_exact(SIZE).map(|item| range(pool, item));
     let mut theirs = theirs.chunks_exact(SIZE).map(|item| range(pool, item));
     let (mut next_x, mut next_y) = (ours.next(), theirs.next());

@@ -1,4 +1,5 @@
-//! Modules 3 and 4: what the Rust answers of two items and of two lists, and what document 01 says, offsets included.
+//! Modules 3 and 4: what the Rust answers of two items and of two lists, and what document 01 says, offsets included; and what of the lists
+//! document 02 leaves out.
 
 use crate::{
     boundaries::{
@@ -6,7 +7,7 @@ use crate::{
         paper::{invert, order, to_query_item, to_range_set},
         Boundary,
     },
-    items::Words,
+    items::{keys, Words},
     query_item::QueryItem,
 };
 
@@ -100,13 +101,27 @@ pub mod paper {
         items
     }
 
-    /// The three lists; theirs-only is ours-only with sides exchanged.
+    /// The three lists; theirs-only is ours-only with sides exchanged. What holds no key is left out at the end, when all is cut (02 §2.1).
     pub fn lists(ours: &[Words], theirs: &[Words], pool: &[u8]) -> [Vec<Words>; 3] {
-        [
+        let mut lists = [
             shared(ours, theirs, pool),
             only(ours, theirs, pool),
             only(theirs, ours, pool),
-        ]
+        ];
+        for list in &mut lists {
+            list.retain(|item| !holds_no_key(*item, pool));
+        }
+        lists
+    }
+
+    /// Below the empty key, or past a key and below the same one with a zero byte behind it (02 §2.2).
+    fn holds_no_key(item: Words, pool: &[u8]) -> bool {
+        let (start, end) = keys(item, pool);
+        match item[0] {
+            5 => end.is_empty(),
+            8 => end.split_last() == Some((&0, start)),
+            _ => false,
+        }
     }
 
     /// A boundary: its kind, and offset and length of its key.
@@ -159,5 +174,24 @@ pub mod rust {
     pub fn converted(items: &[QueryItem]) -> Vec<QueryItem> {
         let convert = |item: &QueryItem| item.to_range_set().to_query_item();
         items.iter().filter_map(convert).collect()
+    }
+
+    /// The items without those that hold no key, which the Rust lists and we do not (D19): everything below the empty key, and what is past a
+    /// key and below the same key with a zero byte behind it.
+    pub fn keyed(items: &[QueryItem]) -> Vec<QueryItem> {
+        let holds_no_key = |item: &&QueryItem| match item.to_range_set().to_query_item() {
+            Some(QueryItem::RangeTo(range)) => range.end.is_empty(),
+            Some(QueryItem::RangeAfterTo(range)) => {
+                let mut next = range.start;
+                next.push(0);
+                next == range.end
+            }
+            _ => false,
+        };
+        items
+            .iter()
+            .filter(|item| !holds_no_key(item))
+            .cloned()
+            .collect()
     }
 }

@@ -43,6 +43,14 @@ fn hold(row: &mut Row, pool: &[u8], [a, b, c]: [&[u32]; 3], asked: &[Vec<u8>]) {
         input("accepted"),
         Against::paper([&a_b, &b_c, &only_b, &only_c].map(accepted), [0; 4]),
     );
+    let hold_keys = |list: &Vec<u32>| list.chunks(6).all(|item| holds_some(item, pool));
+    row.hold(
+        input("items that hold a key"),
+        Against::paper(
+            [&a_b, &only_b, &written(pool, a, b, 2)].map(hold_keys),
+            [true; 3],
+        ),
+    );
     let mut same = |law, x: &[u32], y: &[u32]| {
         row.hold(input(law), Against::paper(shown(x, pool), shown(y, pool)));
     };
@@ -51,13 +59,25 @@ fn hold(row: &mut Row, pool: &[u8], [a, b, c]: [&[u32]; 3], asked: &[Vec<u8>]) {
     same("removals", &without(&only_b, c), &without(&only_c, b));
 }
 
-/// What our call writes: 0 what both share, 1 what the first keeps without the second. Of a refused call, a word that is no item.
+/// What our call writes: 0 what both share, 1 what the first keeps without the second, 2 what the second keeps without the first. Of a refused
+/// call, a word that is no item.
 fn written(pool: &[u8], x: &[u32], y: &[u32], which: usize) -> Vec<u32> {
     let left = many::call(pool, x, y, [x.len() + y.len(); 3]);
     match left.returned {
         0 => left.list(which).to_vec(),
         _ => vec![u32::MAX],
     }
+}
+
+/// Whether an item holds the empty key, its start, or the first key past that: it holds one of these if it holds any.
+fn holds_some(item: &[u32], pool: &[u8]) -> bool {
+    let Some(words) = six(item) else {
+        return false;
+    };
+    let start = keys(words, pool).0;
+    [&[], start, &[start, &[0]].concat()]
+        .iter()
+        .any(|key| list_holds(item, pool, key))
 }
 
 /// Kind, wrapper and key bytes of an item.

@@ -4,10 +4,11 @@
 // position_intervals.rs finds QueryItem in a crate of this name
 extern crate self as grovedb_merk;
 
-mod algebra;
+pub mod algebra;
 mod boundaries;
 mod calls;
 mod departures;
+pub mod earlier;
 pub mod inputs;
 mod insert_calls;
 mod insert_differences;

@@ -1,4 +1,4 @@
-//! D1 to D3 and D5 to D10 in docs/DIFFERENCES.md: each input that stands there, on both sides, and what stands there of both.
+//! D1 to D3, D5 to D10 and D19 in docs/DIFFERENCES.md: each input that stands there, on both sides, and what stands there of both.
 
 use crate::{
     algebra::rust,
@@ -29,6 +29,7 @@ pub fn run() -> Vec<Row> {
         theirs_only(),
         drained(),
         empty_results(),
+        keyless(),
     ]
 }
 
@@ -167,6 +168,27 @@ fn empty_results() -> Row {
         || "none and none".to_string(),
         Against::differences(ours, rust, [Some([0; 3]), None]),
     );
+    row
+}
+
+/// RangeTo - and (05,05 00) by themselves; RangeTo - of P6's two items; and that (05,05 00) cuts on both sides.
+fn keyless() -> Row {
+    let mut row = Row::new("D19 what holds no key");
+    let (full, from_empty, below_empty) =
+        ([3, 0, 0, 0, 0, 0], [4, 0, 0, 0, 0, 0], [5, 0, 0, 0, 0, 0]);
+    let gap = [8, 0, 5, 1, 17, 2];
+    for alone in [below_empty, gap] {
+        let stated = [lists(&[], &[], &[]), lists(&[], &[alone], &[])];
+        hold(&mut row, &POOL, [&[alone], &[]], stated);
+    }
+    let stated = [
+        lists(&[from_empty], &[], &[]),
+        lists(&[from_empty], &[below_empty], &[]),
+    ];
+    hold(&mut row, &POOL, [&[full], &[from_empty]], stated);
+    let cut = [from_to(2, 1, 5), [2, 0, 17, 2, 9, 1]];
+    let stated = [lists(&[], &cut, &[]), lists(&[gap], &cut, &[])];
+    hold(&mut row, &POOL, [&[from_to(2, 1, 9)], &[gap]], stated);
     row
 }
 

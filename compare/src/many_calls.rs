@@ -1,5 +1,5 @@
 //! Module 4: our call on all pairs of accepted lists over few keys, and on random ones, short and long. The Rust's ours-only is converted,
-//! and its theirs-only is its ours-only with sides exchanged.
+//! its theirs-only is its ours-only with sides exchanged, and what holds no key is taken out of its lists.
 
 use crate::{
     algebra::{paper, rust},
@@ -19,9 +19,10 @@ use crate::{
     Size,
 };
 
-/// The Rust's three lists as they are, and its ours-only converted.
+/// The Rust's three lists as they are; and what it shares and its ours-only, this converted, without what holds no key.
 struct Answer {
     lists: [Vec<QueryItem>; 3],
+    shared: Vec<QueryItem>,
     ours: Vec<QueryItem>,
 }
 
@@ -180,7 +181,7 @@ impl Rows {
         let room = self.enough(counts);
         let (left, paper) = (call(room), many::paper(Ok(&lists), room));
         let written = [0, 1, 2].map(|at| items(left.list(at), pool));
-        let rust_lists = [&rust.lists[0], &rust.ours, &exchanged.ours];
+        let rust_lists = [&rust.shared, &rust.ours, &exchanged.ours];
         for at in 0..3 {
             let part = |left: &Left| (left.returned, left.words[at].clone(), left.counts[at]);
             let against = Against {
@@ -255,7 +256,10 @@ impl Rows {
 impl Answer {
     fn new(ours: &List, theirs: &List) -> Self {
         let lists = rust::lists(&ours.rust, &theirs.rust);
-        let ours = rust::converted(&lists[1]);
-        Self { lists, ours }
+        Self {
+            shared: rust::keyed(&lists[0]),
+            ours: rust::keyed(&rust::converted(&lists[1])),
+            lists,
+        }
     }
 }

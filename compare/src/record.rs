@@ -427,8 +427,8 @@ impl Sample {
         self.case(INTERSECT_ITEMS, inputs, parts.iter().fold(answer(), told));
     }
 
-    /// The Rust's ours-only is converted (D6), and theirs-only is ours-only with sides exchanged (D8). The room is just enough, or some
-    /// words more.
+    /// The Rust's ours-only is converted (D6), theirs-only is ours-only with sides exchanged (D8), and what holds no key is taken out (D19).
+    /// The room is just enough, or some words more.
     fn many(&mut self, ours: &[Words], theirs: &[Words], pool: &[u8]) {
         let [shared, mine, _] = rust_lists(ours, theirs, pool);
         let [_, yours, _] = rust_lists(theirs, ours, pool);
@@ -436,7 +436,8 @@ impl Sample {
             shared,
             algebra::converted(&mine),
             algebra::converted(&yours),
-        ];
+        ]
+        .map(|list| algebra::keyed(&list));
         let more = [0, 1, 6, 13][self.count as usize % 4];
         let room = lists.each_ref().map(|list| 6 * list.len() + more);
         let inputs = many_inputs(ours, theirs, pool, room);
@@ -454,7 +455,7 @@ impl Sample {
         self.many(&[FULL], &keys, &pool[..2_048]);
     }
 
-    /// D1, D2, D3 and D5 to D10.
+    /// D1, D2, D3, D5 to D10 and D19.
     fn departures(&mut self) {
         let pool = &COUNTING;
         let room = [24; 3];
@@ -487,8 +488,10 @@ impl Sample {
             let inputs = many_inputs(ours, theirs, pool, room);
             self.listed(INTERSECT_MANY, inputs, refused, rust);
         }
-        // D6 converted, D7 converted, D8 P7 and P8
+        // D6 converted, D7 converted, D8 P7 and P8, D19 each kind by itself, below the empty key, and between two pieces
         let other_pool = [0x05, 0x00];
+        let gap = [8, 0, 0, 1, 0, 2];
+        let from_empty = [4, 0, 0, 0, 0, 0];
         let again = [2, 0, 0, 2, 0, 2];
         for (ours, theirs, lists, pool) in [
             (
@@ -514,6 +517,15 @@ impl Sample {
                 pool,
             ),
             (&[], &[key(4)], [&[], &[], &[key(4)]], pool),
+            (&[[5, 0, 0, 0, 0, 0]], &[], [&[], &[], &[]], pool),
+            (&[gap], &[], [&[], &[], &[]], &other_pool),
+            (&[FULL], &[from_empty], [&[from_empty], &[], &[]], pool),
+            (
+                &[from_empty],
+                &[gap],
+                [&[], &[[2, 0, 0, 0, 0, 1], [4, 0, 0, 2, 0, 0]], &[]],
+                &other_pool,
+            ),
         ] {
             let ours_told = told(&lists.map(|list| items(&list.concat(), pool)));
             let rust = told(&rust_lists(ours, theirs, pool));

@@ -8,7 +8,7 @@ const HEADS: [&str; 6] = [
     "function",
     "calls",
     "as the Rust",
-    "as document 01",
+    "as the papers",
     "listed differences",
     "failures",
 ];
@@ -19,7 +19,7 @@ pub struct Held<T> {
     pub other: T,
 }
 
-/// What a call is held against: the Rust's answer, and that of a plain reading of document 01, where there is one.
+/// What a call is held against: the Rust's answer, and that of a plain reading of the papers, where there is one.
 pub struct Against<R, P> {
     pub rust: Option<Held<R>>,
     pub paper: Option<Held<P>>,
@@ -110,7 +110,7 @@ impl<R: Debug, P: Debug> Against<R, P> {
 
     fn print_paper(&self) {
         if let Some(Held { ours, other }) = &self.paper {
-            println!("    ours {ours:?}\n    document 01 {other:?}");
+            println!("    ours {ours:?}\n    the papers {other:?}");
         }
     }
 }
@@ -143,7 +143,7 @@ impl Row {
         Self { difference, ..self }
     }
 
-    /// Counts a call. It fails where our answer is not document 01's, or is not the Rust's and no difference is listed.
+    /// Counts a call. It fails where our answer is not the papers', or is not the Rust's and no difference is listed.
     pub fn hold<R: PartialEq + Debug, P: PartialEq + Debug>(
         &mut self,
         input: impl Fn() -> String,
@@ -242,13 +242,13 @@ Written by `make compare`. The inputs are the same in every run, and so is this 
 exhaustively on small domains, at random on large ones, and at the limits (0, 1, 2,047, 2,048 and 2,049 items; keys of 0, 1, 254, 255 and 256
 bytes; pools of 65,535, 65,536 and 65,537 bytes; buffers exactly full and one short; u64::MAX).
 
-\"As the Rust\" counts calls that answer what the Rust answers. \"As document 01\" counts calls that answer and leave what a small plain reading
-of document 01 in `compare/` says: refusals, the words written and the words not written, which the Rust hasn't; it is no agreement with the
+\"As the Rust\" counts calls that answer what the Rust answers. \"As the papers\" counts calls that answer and leave what a small plain reading
+of document 01, and of what is built of 02, in `compare/` says: refusals, the words written and the words not written, which the Rust hasn't; it is no agreement with the
 Rust. A dash: there is nothing of that side to hold the calls against. Listed differences bear their number in docs/DIFFERENCES.md; the rows
 named after one run its inputs, and hold both sides to what stands there. Anything else is a failure. Calls in brackets are counted in another
 row, or are none of ours.
 
-| function | calls | as the Rust | as document 01 | listed differences | failures |
+| function | calls | as the Rust | as the papers | listed differences | failures |
 |---|--:|--:|--:|--:|--:|
 ";
 
@@ -262,7 +262,7 @@ fn in_all(rows: &[Row]) -> String {
     ];
     let failures: u64 = rows.iter().map(Row::failures).sum();
     format!(
-        "{calls} calls in all, each counted once: {as_rust} as the Rust, {as_paper} as document 01; {failures} failures."
+        "{calls} calls in all, each counted once: {as_rust} as the Rust, {as_paper} as the papers; {failures} failures."
     )
 }
 

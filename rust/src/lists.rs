@@ -69,7 +69,8 @@ pub struct Counts {
     pub theirs: usize,
 }
 
-/// What two lists share, what only ours holds and what only theirs holds.
+/// What two lists share, what only ours holds and what only theirs holds. Every item of them holds a key, so that none is fetched in vain: what
+/// lies below the empty key, and what lies between a key and that key with a zero byte appended, is in none of them.
 ///
 /// ```
 /// use fernsponge::{intersect_many_ordered, Item, Pool};

@@ -52,6 +52,55 @@ fn every_kind_there_and_back() {
 }
 
 #[test]
+fn no_list_has_what_holds_no_key() {
+    // 05 00 stands behind the bytes 0 to 255, and its first byte is 05 again
+    let pool = [&pool()[..], &[5, 0]].concat();
+    let (five, next) = (
+        KeyAt {
+            offset: 256,
+            length: 1,
+        },
+        KeyAt {
+            offset: 256,
+            length: 2,
+        },
+    );
+    let empty = KeyAt {
+        offset: 0,
+        length: 0,
+    };
+    let shown = |items: &[Item]| {
+        items
+            .iter()
+            .map(|item| item.shown(&pool))
+            .collect::<Vec<_>>()
+    };
+    let lists = intersect_many_ordered(
+        &pool,
+        &[Item::from(QueryItem::RangeFull)],
+        &[Item::from(QueryItem::RangeFrom(empty))],
+    )
+    .unwrap();
+    assert_eq!(
+        (shown(&lists.shared), lists.ours, lists.theirs),
+        (vec!["RangeFrom -".to_string()], vec![], vec![])
+    );
+    // (05,05 00) is in no list, and still cuts
+    let around = Item::range_inclusive(at(1), at(9));
+    let lists = intersect_many_ordered(
+        &pool,
+        &[around],
+        &[Item::from(QueryItem::RangeAfterTo(five, next))],
+    )
+    .unwrap();
+    assert_eq!(
+        shown(&lists.ours),
+        ["RangeInclusive 01 05", "RangeInclusive 0500 09"]
+    );
+    assert_eq!((lists.shared, lists.theirs), (vec![], vec![]));
+}
+
+#[test]
 fn no_item_of_two_boundaries() {
     let end = Boundary {
         kind: BoundaryKind::ExclusiveEnd,

@@ -67,8 +67,8 @@ fn intersect(pool: &[u8], ours: RangeSet, theirs: RangeSet) -> QueryItemIntersec
     }
 }
 
-// inner: the item of a range, if there is one.
-pub fn item_of(pool: &[u8], set: MaybeSet) -> MaybeItem
+// The item of a range, if there is one.
+fn item_of(pool: &[u8], set: MaybeSet) -> MaybeItem
     ensures { λ r. ⌜ r ≡ converted (now (pool .entry)) (asSets set) ⌝ }
 {
     match set {

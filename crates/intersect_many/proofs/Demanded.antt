@@ -1,7 +1,8 @@
--- The laws of Demands.antt, proved: lists as intervals of ranks, the laws of `intervals`, and the way back to items and keys.
+-- The laws of Demands.antt, proved: lists as intervals of ranks, the laws of `intervals`, and the way back to items and keys. What holds no key
+-- is left out of a result; left out before or after, the rest is the same (Parts.antt).
 -- Assumes nothing.
 use Prim.Native.Nat.{ℕ, _+_, _≤_}
-use mathlib.Core.Path.{_≡_, refl, sym, ap₂, _∙_}
+use mathlib.Core.Path.{_≡_, refl, sym, ap, ap₂, _∙_}
 use mathlib.Core.Bool.{Bool, true, false, not, _&&_, _||_}
 use mathlib.Core.List.{List, [], _∷_, map}
 use native.Mathlib.Nat.{le-refl}
@@ -19,13 +20,15 @@ use Rattle.item_check.proofs.Laws.{AcceptedList, accepts, accepted-list}
 use Rattle.intervals.specs.Lists.{sharedOf, withoutOf}
 use Rattle.intervals.specs.Intervals.{Interval, Strict, holds, shared, without}
 use Rattle.intervals.proofs.Laws as intervals
-use Rattle.intervals.proofs.Laws.{All}
+use Rattle.intervals.proofs.Laws.{All, keep-passes}
 use Rattle.intersect.specs.Pair.{meetSets}
-use Rattle.intersect_many.specs.Lists.{setsOf, convertAll, cutSets, sharedItems, onlyItems, wordsAll}
-use Rattle.intersect_many.specs.Demand.{sharedWords, withoutWords, Accepted, Fits, listHolds, SameItems}
+use Rattle.keyless.specs.Keyless.{keyless, keyed}
+use Rattle.intersect_many.specs.Lists.{setsOf, sharedSets, cutSets, onlySets, keyedItems, sharedItems, onlyItems, wordsAll}
+use Rattle.intersect_many.specs.Demand.{sharedWords, withoutWords, Accepted, Fits, listHolds, EachHolds, SameItems}
 use Rattle.intersect_many.proofs.Carried.{iv, Fine, shared-fine, shared-carried, without-fine, without-carried}
-use Rattle.intersect_many.proofs.Listed.{items-of-words, sets-of-words, itemIv, convert-fine, convert-carried, words-accepted}
-use Rattle.intersect_many.proofs.Shown.{same-shown}
+use Rattle.intersect_many.proofs.Listed.{items-of-words, sets-of-words, itemIv, convert-fine, convert-carried, words-hold, words-accepted}
+use Rattle.intersect_many.proofs.Parts.{fine-keyed, holds-keyed, above-keyed, shared-keyed, shared-keyed-second, without-keyed}
+use Rattle.intersect_many.proofs.Shown.{same-keyed, same-shown}
 use Rattle.intersect_many.proofs.Sound.{list-fine, list-strict}
 
 -- ---- lists as intervals
@@ -48,26 +51,42 @@ module _ (pool : List ℕ) (n : ℕ) (fits : size pool ≤ n) where
       go [] = refl
       go (q ∷ Q) = ap₂ _∷_ refl (go Q)
 
+  -- ---- ranges S as a result list
+
+  module _ (S : List RangeSet) (h : All (Fine pool n fits) S) where
+    -- as intervals: of those that hold a key
+    result-ivs : ivs (wordsAll (keyedItems pool S)) ≡ map (iv pool n fits) (keyed pool S)
+    unfolding keyedItems
+    result-ivs = words-ivs (keyedItems pool S) ∙ convert-carried pool n fits (keyed pool S) (fine-keyed pool n fits S h)
+
+    -- the keys that it holds: what is left out holds none
+    result-holds : (k : List ℕ) → size k ≤ n → holds (ivs (wordsAll (keyedItems pool S))) (keyRank n k) ≡ holds (map (iv pool n fits) S) (keyRank n k)
+    result-holds k l = ap (λ (L : List Interval). holds L (keyRank n k)) result-ivs ∙ holds-keyed pool n fits S h k l
+
+    result-accepted : Strict (map (iv pool n fits) S) → Fits (keyedItems pool S) → AcceptedList pool (wordsAll (keyedItems pool S))
+    unfolding keyedItems
+    result-accepted s f =
+        words-accepted pool n fits (keyedItems pool S) (convert-fine pool n fits (keyed pool S) (fine-keyed pool n fits S h))
+        (rw (← words-ivs (keyedItems pool S), result-ivs) (above-keyed pool n fits 0 S s)) f
+
+    result-each-holds : EachHolds pool (itemsOf (wordsAll (keyedItems pool S)))
+    unfolding keyedItems
+    result-each-holds = words-hold pool n fits (keyed pool S) (fine-keyed pool n fits S h) (keep-passes (λ s. not (keyless pool s)) S)
+
+  -- ---- what two lists share and what one keeps, those that hold no key among them
+
   module _ (A B : List ℕ) (a : AcceptedList pool A) (b : AcceptedList pool B) where
-    shared-sets : All (Fine pool n fits) (sharedOf (meetSets pool) (setsOf A) (setsOf B))
+    shared-ivs : map (iv pool n fits) (sharedSets pool A B) ≡ shared (ivs A) (ivs B)
+    shared-ivs = shared-carried pool n fits (setsOf A) (setsOf B) (list-fine pool n fits A a) (list-fine pool n fits B b)
+
+    without-ivs : map (iv pool n fits) (onlySets pool A B) ≡ without (ivs A) (ivs B)
+    without-ivs = without-carried pool n fits (setsOf A) (setsOf B) (list-fine pool n fits A a) (list-fine pool n fits B b)
+
+    shared-sets : All (Fine pool n fits) (sharedSets pool A B)
     shared-sets = shared-fine pool n fits (setsOf A) (setsOf B) (list-fine pool n fits A a) (list-fine pool n fits B b)
 
-    without-sets : All (Fine pool n fits) (withoutOf (cutSets pool) (setsOf A) (setsOf B))
+    without-sets : All (Fine pool n fits) (onlySets pool A B)
     without-sets = without-fine pool n fits (setsOf A) (setsOf B) (list-fine pool n fits A a) (list-fine pool n fits B b)
-
-    shared-ivs : ivs (sharedWords pool A B) ≡ shared (ivs A) (ivs B)
-    unfolding sharedItems
-    shared-ivs =
-        words-ivs (sharedItems pool A B)
-        ∙ convert-carried pool n fits (sharedOf (meetSets pool) (setsOf A) (setsOf B)) shared-sets
-        ∙ shared-carried pool n fits (setsOf A) (setsOf B) (list-fine pool n fits A a) (list-fine pool n fits B b)
-
-    without-ivs : ivs (withoutWords pool A B) ≡ without (ivs A) (ivs B)
-    unfolding onlyItems
-    without-ivs =
-        words-ivs (onlyItems pool A B)
-        ∙ convert-carried pool n fits (withoutOf (cutSets pool) (setsOf A) (setsOf B)) without-sets
-        ∙ without-carried pool n fits (setsOf A) (setsOf B) (list-fine pool n fits A a) (list-fine pool n fits B b)
 
   any-holds : (its : List ItemWords) (k : List ℕ) → size k ≤ n → holdsAny pool its k ≡ holds (map (iv pool n fits) (map rangeOf its)) (keyRank n k)
   unfolding holds holdsAny
@@ -92,22 +111,26 @@ module _ (pool A B : List ℕ) (a : Accepted pool A) (b : Accepted pool B) (k : 
 
   -- shared holds exactly what both hold
   pub shared-holds : listHolds pool (sharedWords pool A B) k ≡ listHolds pool A k && listHolds pool B k
+  unfolding sharedItems
   shared-holds =
       rw (
         list-holds pool n fit (sharedWords pool A B) k short,
         list-holds pool n fit A k short,
         list-holds pool n fit B k short,
+        result-holds pool n fit (sharedSets pool A B) (shared-sets pool n fit A B (list-of pool A a) (list-of pool B b)) k short,
         shared-ivs pool n fit A B (list-of pool A a) (list-of pool B b),
       )
       (intervals.holds-shared (ivs pool n fit A) (ivs pool n fit B) (keyRank n k))
 
   -- without holds exactly what A holds and B does not
   pub without-holds : listHolds pool (withoutWords pool A B) k ≡ listHolds pool A k && not (listHolds pool B k)
+  unfolding onlyItems
   without-holds =
       rw (
         list-holds pool n fit (withoutWords pool A B) k short,
         list-holds pool n fit A k short,
         list-holds pool n fit B k short,
+        result-holds pool n fit (onlySets pool A B) (without-sets pool n fit A B (list-of pool A a) (list-of pool B b)) k short,
         without-ivs pool n fit A B (list-of pool A a) (list-of pool B b),
       )
       (intervals.holds-without (ivs pool n fit A) (ivs pool n fit B) (keyRank n k))
@@ -136,80 +159,156 @@ module _ (pool : List ℕ) where
   abbrev at : size pool ≤ size pool
   at = le-refl (size pool)
 
+  abbrev ivsOf : List RangeSet → List Interval
+  ivsOf S = map (iv pool (size pool) at) S
+
   abbrev spans : List ℕ → List Interval
-  spans ws = ivs pool (size pool) at ws
+  spans ws = ivsOf (setsOf ws)
+
+  abbrev FineAll : List RangeSet → Type 0
+  FineAll S = All (Fine pool (size pool) at) S
+
+  abbrev sharing : List RangeSet → List RangeSet → List RangeSet
+  sharing S T = sharedOf (meetSets pool) S T
+
+  abbrev keeping : List RangeSet → List RangeSet → List RangeSet
+  keeping S T = withoutOf (cutSets pool) S T
+
+  fine-of : (A : List ℕ) → Accepted pool A → FineAll (setsOf A)
+  fine-of A a = list-fine pool (size pool) at A (list-of pool A a)
+
+  strict-of : (A : List ℕ) → Accepted pool A → Strict (spans A)
+  strict-of A a = list-strict pool (size pool) at A (list-of pool A a)
 
   module _ (A B : List ℕ) (a : Accepted pool A) (b : Accepted pool B) where
-    strict-a : Strict (spans A)
-    strict-a = list-strict pool (size pool) at A (list-of pool A a)
+    both : FineAll (sharedSets pool A B)
+    both = shared-sets pool (size pool) at A B (list-of pool A a) (list-of pool B b)
 
-    strict-b : Strict (spans B)
-    strict-b = list-strict pool (size pool) at B (list-of pool B b)
+    only : FineAll (onlySets pool A B)
+    only = without-sets pool (size pool) at A B (list-of pool A a) (list-of pool B b)
+
+    both-ivs : ivsOf (sharedSets pool A B) ≡ shared (spans A) (spans B)
+    both-ivs = shared-ivs pool (size pool) at A B (list-of pool A a) (list-of pool B b)
+
+    only-ivs : ivsOf (onlySets pool A B) ≡ without (spans A) (spans B)
+    only-ivs = without-ivs pool (size pool) at A B (list-of pool A a) (list-of pool B b)
 
     pub shared-accepted : Fits (sharedItems pool A B) → Accepted pool (sharedWords pool A B)
     unfolding sharedItems
     shared-accepted f =
         accepted-by pool A (sharedWords pool A B) a
-        (words-accepted pool (size pool) at (sharedItems pool A B)
-        (convert-fine pool (size pool) at (sharedOf (meetSets pool) (setsOf A) (setsOf B)) (shared-sets pool (size pool) at A B (list-of pool A a) (list-of pool B b)))
-        (rw (← words-ivs pool (size pool) at (sharedItems pool A B), shared-ivs pool (size pool) at A B (list-of pool A a) (list-of pool B b))
-        (intervals.shared-strict (spans A) (spans B) strict-a strict-b))
-        f)
+        (result-accepted pool (size pool) at (sharedSets pool A B) both
+        (rw both-ivs (intervals.shared-strict (spans A) (spans B) (strict-of A a) (strict-of B b))) f)
 
     pub without-accepted : Fits (onlyItems pool A B) → Accepted pool (withoutWords pool A B)
     unfolding onlyItems
     without-accepted f =
         accepted-by pool A (withoutWords pool A B) a
-        (words-accepted pool (size pool) at (onlyItems pool A B)
-        (convert-fine pool (size pool) at (withoutOf (cutSets pool) (setsOf A) (setsOf B)) (without-sets pool (size pool) at A B (list-of pool A a) (list-of pool B b)))
-        (rw (← words-ivs pool (size pool) at (onlyItems pool A B), without-ivs pool (size pool) at A B (list-of pool A a) (list-of pool B b))
-        (intervals.without-strict (spans A) (spans B) strict-a strict-b))
-        f)
+        (result-accepted pool (size pool) at (onlySets pool A B) only
+        (rw only-ivs (intervals.without-strict (spans A) (spans B) (strict-of A a) (strict-of B b))) f)
+
+    -- 02 §2.1: each item of a result holds a key
+    pub shared-each-holds : EachHolds pool (itemsOf (sharedWords pool A B))
+    unfolding sharedItems
+    shared-each-holds = result-each-holds pool (size pool) at (sharedSets pool A B) both
+
+    pub without-each-holds : EachHolds pool (itemsOf (withoutWords pool A B))
+    unfolding onlyItems
+    without-each-holds = result-each-holds pool (size pool) at (onlySets pool A B) only
 
   -- ---- 2 and 3: the same list, item by item, by kind and key bytes
 
-  same-words : (S T : List RangeSet) → All (Fine pool (size pool) at) S → All (Fine pool (size pool) at) T
-      → map (iv pool (size pool) at) S ≡ map (iv pool (size pool) at) T → SameItems pool (wordsAll (convertAll pool S)) (wordsAll (convertAll pool T))
-  same-words S T h k e = rw (items-of-words (convertAll pool S), items-of-words (convertAll pool T)) (same-shown pool (size pool) at S T h k e)
+  same-words : (S T : List RangeSet) → FineAll S → FineAll T → ivsOf (keyed pool S) ≡ ivsOf (keyed pool T)
+      → SameItems pool (wordsAll (keyedItems pool S)) (wordsAll (keyedItems pool T))
+  unfolding keyedItems
+  same-words S T h k e =
+      rw (items-of-words (keyedItems pool S), items-of-words (keyedItems pool T))
+      (same-shown pool (size pool) at (keyed pool S) (keyed pool T) (fine-keyed pool (size pool) at S h) (fine-keyed pool (size pool) at T k) e)
+
+  -- with others in place of S and T, the same as intervals, what is shared or kept is the same, and the same is left out
+
+  module _ (S T S′ T′ : List RangeSet) (s : FineAll S) (t : FineAll T) (s′ : FineAll S′) (t′ : FineAll T′) where
+    sharing-same : shared (ivsOf S) (ivsOf T) ≡ shared (ivsOf S′) (ivsOf T′) → ivsOf (keyed pool (sharing S T)) ≡ ivsOf (keyed pool (sharing S′ T′))
+    sharing-same e =
+        same-keyed pool (size pool) at (sharing S T) (sharing S′ T′)
+        (shared-carried pool (size pool) at S T s t ∙ e ∙ sym (shared-carried pool (size pool) at S′ T′ s′ t′))
+
+    keeping-same : without (ivsOf S) (ivsOf T) ≡ without (ivsOf S′) (ivsOf T′) → ivsOf (keyed pool (keeping S T)) ≡ ivsOf (keyed pool (keeping S′ T′))
+    keeping-same e =
+        same-keyed pool (size pool) at (keeping S T) (keeping S′ T′)
+        (without-carried pool (size pool) at S T s t ∙ e ∙ sym (without-carried pool (size pool) at S′ T′ s′ t′))
 
   module _ (A B C D : List ℕ) (a : Accepted pool A) (b : Accepted pool B) (c : Accepted pool C) (d : Accepted pool D) where
-    shared-same : shared (spans A) (spans B) ≡ shared (spans C) (spans D) → SameItems pool (sharedWords pool A B) (sharedWords pool C D)
+    shared-same : ivsOf (keyed pool (sharedSets pool A B)) ≡ ivsOf (keyed pool (sharedSets pool C D))
+        → SameItems pool (sharedWords pool A B) (sharedWords pool C D)
     unfolding sharedItems
-    shared-same e =
-        same-words (sharedOf (meetSets pool) (setsOf A) (setsOf B)) (sharedOf (meetSets pool) (setsOf C) (setsOf D))
-        (shared-sets pool (size pool) at A B (list-of pool A a) (list-of pool B b))
-        (shared-sets pool (size pool) at C D (list-of pool C c) (list-of pool D d))
-        (shared-carried pool (size pool) at (setsOf A) (setsOf B) (list-fine pool (size pool) at A (list-of pool A a)) (list-fine pool (size pool) at B (list-of pool B b))
-        ∙ e
-        ∙ sym (shared-carried pool (size pool) at (setsOf C) (setsOf D) (list-fine pool (size pool) at C (list-of pool C c)) (list-fine pool (size pool) at D (list-of pool D d))))
+    shared-same e = same-words (sharedSets pool A B) (sharedSets pool C D) (both A B a b) (both C D c d) e
 
-    without-same : without (spans A) (spans B) ≡ without (spans C) (spans D) → SameItems pool (withoutWords pool A B) (withoutWords pool C D)
+    without-same : ivsOf (keyed pool (onlySets pool A B)) ≡ ivsOf (keyed pool (onlySets pool C D))
+        → SameItems pool (withoutWords pool A B) (withoutWords pool C D)
     unfolding onlyItems
-    without-same e =
-        same-words (withoutOf (cutSets pool) (setsOf A) (setsOf B)) (withoutOf (cutSets pool) (setsOf C) (setsOf D))
-        (without-sets pool (size pool) at A B (list-of pool A a) (list-of pool B b))
-        (without-sets pool (size pool) at C D (list-of pool C c) (list-of pool D d))
-        (without-carried pool (size pool) at (setsOf A) (setsOf B) (list-fine pool (size pool) at A (list-of pool A a)) (list-fine pool (size pool) at B (list-of pool B b))
-        ∙ e
-        ∙ sym (without-carried pool (size pool) at (setsOf C) (setsOf D) (list-fine pool (size pool) at C (list-of pool C c)) (list-fine pool (size pool) at D (list-of pool D d))))
+    without-same e = same-words (onlySets pool A B) (onlySets pool C D) (only A B a b) (only C D c d) e
 
   -- sharing gives the same list in either order
   pub shared-comm : (A B : List ℕ) → Accepted pool A → Accepted pool B → SameItems pool (sharedWords pool A B) (sharedWords pool B A)
-  shared-comm A B a b = shared-same A B B A a b b a (intervals.shared-comm (spans A) (spans B) (strict-a A B a b) (strict-b A B a b))
+  shared-comm A B a b =
+      shared-same A B B A a b b a
+      (sharing-same (setsOf A) (setsOf B) (setsOf B) (setsOf A) (fine-of A a) (fine-of B b) (fine-of B b) (fine-of A a)
+      (intervals.shared-comm (spans A) (spans B) (strict-of A a) (strict-of B b)))
+
+  -- a result in place of a list: what it left out would be left out later
+
+  module _ (A B C : List ℕ) (a : Accepted pool A) (b : Accepted pool B) (c : Accepted pool C) where
+    shared-first : Accepted pool (sharedWords pool A B)
+        → ivsOf (keyed pool (sharing (setsOf (sharedWords pool A B)) (setsOf C))) ≡ ivsOf (keyed pool (sharing (sharedSets pool A B) (setsOf C)))
+    unfolding sharedItems
+    shared-first w =
+        sharing-same (setsOf (sharedWords pool A B)) (setsOf C) (keyed pool (sharedSets pool A B)) (setsOf C)
+        (fine-of (sharedWords pool A B) w) (fine-of C c) (fine-keyed pool (size pool) at (sharedSets pool A B) (both A B a b)) (fine-of C c)
+        (ap (λ (L : List Interval). shared L (spans C)) (result-ivs pool (size pool) at (sharedSets pool A B) (both A B a b)))
+        ∙ ap ivsOf (shared-keyed pool (size pool) at (sharedSets pool A B) (setsOf C) (both A B a b) (fine-of C c))
+
+    shared-second : Accepted pool (sharedWords pool A B)
+        → ivsOf (keyed pool (sharing (setsOf C) (setsOf (sharedWords pool A B)))) ≡ ivsOf (keyed pool (sharing (setsOf C) (sharedSets pool A B)))
+    unfolding sharedItems
+    shared-second w =
+        sharing-same (setsOf C) (setsOf (sharedWords pool A B)) (setsOf C) (keyed pool (sharedSets pool A B))
+        (fine-of C c) (fine-of (sharedWords pool A B) w) (fine-of C c) (fine-keyed pool (size pool) at (sharedSets pool A B) (both A B a b))
+        (ap (λ (L : List Interval). shared (spans C) L) (result-ivs pool (size pool) at (sharedSets pool A B) (both A B a b)))
+        ∙ ap ivsOf (shared-keyed-second pool (size pool) at (setsOf C) (sharedSets pool A B) (fine-of C c) (both A B a b))
+
+    without-first : Accepted pool (withoutWords pool A B)
+        → ivsOf (keyed pool (keeping (setsOf (withoutWords pool A B)) (setsOf C))) ≡ ivsOf (keyed pool (keeping (onlySets pool A B) (setsOf C)))
+    unfolding onlyItems
+    without-first w =
+        keeping-same (setsOf (withoutWords pool A B)) (setsOf C) (keyed pool (onlySets pool A B)) (setsOf C)
+        (fine-of (withoutWords pool A B) w) (fine-of C c) (fine-keyed pool (size pool) at (onlySets pool A B) (only A B a b)) (fine-of C c)
+        (ap (λ (L : List Interval). without L (spans C)) (result-ivs pool (size pool) at (onlySets pool A B) (only A B a b)))
+        ∙ ap ivsOf (without-keyed pool (size pool) at (onlySets pool A B) (setsOf C) (only A B a b) (fine-of C c))
 
   module _ (A B C : List ℕ) (a : Accepted pool A) (b : Accepted pool B) (c : Accepted pool C) where
     -- and in either grouping
     pub shared-assoc : Fits (sharedItems pool A B) → Fits (sharedItems pool B C)
         → SameItems pool (sharedWords pool (sharedWords pool A B) C) (sharedWords pool A (sharedWords pool B C))
     shared-assoc f g =
-        shared-same (sharedWords pool A B) C A (sharedWords pool B C) (shared-accepted A B a b f) c a (shared-accepted B C b c g)
-        (rw (shared-ivs pool (size pool) at A B (list-of pool A a) (list-of pool B b), shared-ivs pool (size pool) at B C (list-of pool B b) (list-of pool C c))
-        (intervals.shared-assoc (spans A) (spans B) (spans C)))
+        let ab = shared-accepted A B a b f in
+        let bc = shared-accepted B C b c g in
+        shared-same (sharedWords pool A B) C A (sharedWords pool B C) ab c a bc
+        (shared-first A B C a b c ab
+        ∙ sharing-same (sharedSets pool A B) (setsOf C) (setsOf A) (sharedSets pool B C)
+        (both A B a b) (fine-of C c) (fine-of A a) (both B C b c)
+        (rw (both-ivs A B a b, both-ivs B C b c) (intervals.shared-assoc (spans A) (spans B) (spans C)))
+        ∙ sym (shared-second B C A b c a bc))
 
     -- A without B then C is A without C then B
     pub without-swap : Fits (onlyItems pool A B) → Fits (onlyItems pool A C)
         → SameItems pool (withoutWords pool (withoutWords pool A B) C) (withoutWords pool (withoutWords pool A C) B)
     without-swap f g =
-        without-same (withoutWords pool A B) C (withoutWords pool A C) B (without-accepted A B a b f) c (without-accepted A C a c g) b
-        (rw (without-ivs pool (size pool) at A B (list-of pool A a) (list-of pool B b), without-ivs pool (size pool) at A C (list-of pool A a) (list-of pool C c))
-        (intervals.without-swap (spans A) (spans B) (spans C) (strict-b A B a b) (strict-b A C a c)))
+        let ab = without-accepted A B a b f in
+        let ac = without-accepted A C a c g in
+        without-same (withoutWords pool A B) C (withoutWords pool A C) B ab c ac b
+        (without-first A B C a b c ab
+        ∙ keeping-same (onlySets pool A B) (setsOf C) (onlySets pool A C) (setsOf B)
+        (only A B a b) (fine-of C c) (only A C a c) (fine-of B b)
+        (rw (only-ivs A B a b, only-ivs A C a c) (intervals.without-swap (spans A) (spans B) (spans C) (strict-of B b) (strict-of C c)))
+        ∙ sym (without-first A C B a c b ac))

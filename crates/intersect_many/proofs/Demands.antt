@@ -1,4 +1,4 @@
--- DEMAND 3 (01 demand.3, tight.7), as laws of the lists that `intersect_many_ordered` writes, for any accepted lists A, B, C over one pool.
+-- DEMAND 3 (01 demand.3, tight.7, 02 §2.5), as laws of the lists that `intersect_many_ordered` writes, for any accepted lists A, B, C over one pool.
 -- What a reader must believe is in specs/Demand.antt and specs/Lists.antt; each law is proved in Called.antt, Room.antt or Demanded.antt. Assumes
 -- nothing.
 use Prim.Native.Nat.{ℕ, _*_}
@@ -8,10 +8,10 @@ use mathlib.Core.List.{List}
 use lib.ListN.{length, take}
 use Rattle.query_item.specs.declared.QueryItem.{QueryItem}
 use Rattle.query_item.specs.Items.{itemSize}
-use Rattle.item_check.specs.Checks.{answered}
+use Rattle.item_check.specs.Checks.{answered, itemsOf}
 use Rattle.item_lists.specs.Written.{plain, written}
 use Rattle.intersect_many.specs.Lists.{sharedItems, onlyItems, wordsAll, lacksRoom, countsOf, manyAnswer}
-use Rattle.intersect_many.specs.Demand.{sharedWords, withoutWords, Accepted, Fits, listHolds, SameItems}
+use Rattle.intersect_many.specs.Demand.{sharedWords, withoutWords, Accepted, Fits, listHolds, EachHolds, SameItems}
 use Rattle.intersect_many.proofs.Room.{length-words}
 use Rattle.intersect_many.proofs.Called as called
 use Rattle.intersect_many.proofs.Demanded as demanded
@@ -64,6 +64,13 @@ module _ (pool A B : List ℕ) (a : Accepted pool A) (b : Accepted pool B) where
 
   pub without-accepted : Fits (onlyItems pool A B) → Accepted pool (withoutWords pool A B)
   without-accepted f = demanded.without-accepted pool A B a b f
+
+  -- 5. Each item of each result holds a key (02 §2.1)
+  pub shared-each-holds : EachHolds pool (itemsOf (sharedWords pool A B))
+  shared-each-holds = demanded.shared-each-holds pool A B a b
+
+  pub without-each-holds : EachHolds pool (itemsOf (withoutWords pool A B))
+  without-each-holds = demanded.without-each-holds pool A B a b
 
 module _ (pool A B C : List ℕ) (a : Accepted pool A) (b : Accepted pool B) (c : Accepted pool C) where
   -- 2. and in either grouping

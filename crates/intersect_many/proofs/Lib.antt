@@ -5,6 +5,7 @@ pub mod Rests
 pub mod Swept
 pub mod Room
 pub mod Carried
+pub mod Parts
 pub mod Listed
 pub mod Shown
 pub mod Sound
@@ -13,3 +14,4 @@ pub mod Called
 pub mod Demands
 pub mod Stands
 pub mod Apart
+mod Examples

@@ -1,8 +1,8 @@
 -- Converted lists as words, read back: the items that were written, their intervals, and that the check accepts them. Assumes nothing.
 use Prim.Native.Nat.{ℕ, _+_, _/_, _%_, _≤_}
-use mathlib.Core.Path.{_≡_, refl, ap, ap₂, _∙_}
-use mathlib.Core.Bool.{false, cond}
-use mathlib.Core.List.{List, [], _∷_, append-nil, map, map-append}
+use mathlib.Core.Path.{_≡_, refl, sym, ap, ap₂, _∙_}
+use mathlib.Core.Bool.{true, false, cond, not, Bool·not-not}
+use mathlib.Core.List.{List, [], _∷_, _++_, append-nil, map, map-append}
 use native.Mathlib.Omega.{arith}
 use lib.ListN.{length}
 use borrow.Author.Tests.{lt-ltb}
@@ -28,17 +28,22 @@ use Rattle.query_item.specs.declared.QueryItem.the-variants.{
 use Rattle.query_item.specs.declared.RangeSetItem.{RangeSetItem}
 use Rattle.query_item.specs.declared.RangeSetItem.the-variants.{UnboundedStart, UnboundedEnd, Inclusive, ExclusiveStart, ExclusiveEnd}
 use Rattle.query_item.specs.declared.RangeSet.{RangeSet}
-use Rattle.query_item.specs.declared.MaybeItem.the-variants.{Item}
+use Rattle.query_item.specs.declared.ItemWords.{ItemWords}
+use Rattle.query_item.specs.declared.MaybeItem.{MaybeItem}
+use Rattle.query_item.specs.declared.MaybeItem.the-variants.{NoItem, Item}
 use Rattle.query_item.specs.Items.{bytesOf, itemSize, queryItem, wordsOf}
 use Rattle.query_item.specs.Boundaries.{fromTo, toRangeSet, rangeOf, itemBetween, toQueryItem}
-use Rattle.query_item.proofs.Laws.{rankIn, less-rank, whole-upright}
+use Rattle.query_item.proofs.Laws.{Keeps, item-keeps, holds-converted, rankIn, less-rank, whole-upright}
 use Rattle.item_check.specs.Checks.{mostItems, malformed, outside, uprightFault, itemsOf}
 use Rattle.item_check.proofs.Laws.{AllSound, Following, InOrder, AcceptedList}
 use Rattle.intervals.specs.Intervals.{Interval, Above, Strict}
 use Rattle.intervals.proofs.Laws.{All, all-append}
 use Rattle.item_lists.specs.Written.{asItems, plain}
 use Rattle.item_lists.proofs.Read.{items-read}
+use Rattle.keyless.specs.Keyless.{keyless, firstOf}
+use Rattle.keyless.proofs.Laws.{keyed-first}
 use Rattle.intersect_many.specs.Lists.{setsOf, convertAll, wordsAll}
+use Rattle.intersect_many.specs.Demand.{EachHolds}
 use Rattle.intersect_many.proofs.Carried.{iv, Fine}
 use Rattle.intersect_many.proofs.Written.{length-plain}
 use Rattle.intersect_many.proofs.Room.{length-words}
@@ -124,6 +129,29 @@ module _ (pool : List ℕ) (n : ℕ) (fits : size pool ≤ n) where
   convert-carried (s ∷ S) h =
       map-append itemIv (asItems (toQueryItem pool s)) (convertAll pool S)
       ∙ rw (convert-one (s .start) (s .end) (h .0) .1, convert-carried S (h .1))
+
+  -- ---- each item of ranges that hold a key holds one (02 §2.1)
+
+  item-holds : (s : RangeSet) → Fine pool n fits s → keyless pool s ≡ false → (m : MaybeItem) → toQueryItem pool s ≡ m → EachHolds pool (map (wordsOf 0) (asItems m))
+  item-holds s f d NoItem e = tt
+  item-holds s f d (Item q) e =
+      let keeps : Keeps pool (s .start) (s .end) (Item q) = rw e at (item-keeps pool (s .start) (s .end)) in
+      (rw (query-words 0 q, keeps .0) (holds-converted pool (s .start) (s .end) q (firstOf pool s) e ∙ keyed-first pool n fits s (f .good) d), tt)
+
+  each-append : (X Y : List ItemWords) → EachHolds pool X → EachHolds pool Y → EachHolds pool (X ++ Y)
+  each-append [] Y h k = k
+  each-append (x ∷ X) Y h k = (h .0, each-append X Y (h .1) k)
+
+  items-hold : (S : List RangeSet) → All (Fine pool n fits) S → All (λ s. not (keyless pool s) ≡ true) S → EachHolds pool (map (wordsOf 0) (convertAll pool S))
+  unfolding convertAll
+  items-hold [] h d = tt
+  items-hold (s ∷ S) h d =
+      rw (map-append (wordsOf 0) (asItems (toQueryItem pool s)) (convertAll pool S))
+      (each-append (map (wordsOf 0) (asItems (toQueryItem pool s))) (map (wordsOf 0) (convertAll pool S))
+      (item-holds s (h .0) (sym (Bool·not-not (keyless pool s)) ∙ ap not (d .0)) (toQueryItem pool s) refl) (items-hold S (h .1) (d .1)))
+
+  pub words-hold : (S : List RangeSet) → All (Fine pool n fits) S → All (λ s. not (keyless pool s) ≡ true) S → EachHolds pool (itemsOf (wordsAll (convertAll pool S)))
+  words-hold S h d = rw (items-of-words (convertAll pool S)) (items-hold S h d)
 
   -- ---- what the check accepts
 

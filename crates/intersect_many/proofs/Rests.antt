@@ -7,14 +7,15 @@ use native.Mathlib.Nat.{sub-zero}
 use native.Mathlib.Omega.{arith}
 use lib.ListN.{length, length-append}
 use Rattle.query_item.specs.declared.RangeSet.{RangeSet}
-use Rattle.query_item.specs.declared.MaybeItem.{MaybeItem}
-use Rattle.query_item.specs.declared.MaybeItem.the-variants.{NoItem, Item}
 use Rattle.query_item.specs.Items.{itemSize, itemsFrom}
-use Rattle.query_item.specs.Boundaries.{rangeOf, setAt, toQueryItem}
+use Rattle.query_item.specs.Boundaries.{rangeOf, setAt}
+use Rattle.keyless.specs.Keyless.{pieceItem}
 use Rattle.item_check.proofs.Laws.{items-end, items-more}
 use Rattle.item_lists.specs.Written.{asItems}
-use Rattle.intersect_many.specs.Lists.{setsOf, convertAll}
+use Rattle.intersect_many.specs.Lists.{setsOf, keyedItems}
 use Rattle.intersect_many.specs.Sweep.{setsLeft, withHead, restLeft}
+use Rattle.intersect_many.proofs.Pieces.{keyed-none, keyed-cons}
+use Rattle.intersect_many.proofs.Written.{one}
 
 -- at the first index all are
 pub sets-all : (ws : List ℕ) → setsLeft ws 0 ≡ setsOf ws
@@ -40,26 +41,19 @@ module _ (ws : List ℕ) (i : ℕ) where
     | no h ↦ rw (rest-end (setAt ws i) (omega arith), sets-end (omega arith))
   ]
 
-pub convert-more : (pool ws : List ℕ) (i : ℕ) → i < length ws / itemSize
-    → convertAll pool (setsLeft ws i) ≡ asItems (toQueryItem pool (setAt ws i)) ++ convertAll pool (setsLeft ws (i + 1))
-unfolding convertAll
-convert-more pool ws i h = rw (sets-more ws i h)
+pub keyed-more : (pool ws : List ℕ) (i : ℕ) → i < length ws / itemSize
+    → keyedItems pool (setsLeft ws i) ≡ asItems (pieceItem pool (setAt ws i)) ++ keyedItems pool (setsLeft ws (i + 1))
+keyed-more pool ws i h = rw (sets-more ws i h) (keyed-cons pool (setAt ws i) (setsLeft ws (i + 1)))
 
-pub convert-rest : (pool ws : List ℕ) (i : ℕ) (x : RangeSet) → i < length ws / itemSize
-    → convertAll pool (restLeft ws i x) ≡ asItems (toQueryItem pool x) ++ convertAll pool (setsLeft ws (i + 1))
-unfolding convertAll
-convert-rest pool ws i x h = rw (rest-more ws i x h)
+pub keyed-rest : (pool ws : List ℕ) (i : ℕ) (x : RangeSet) → i < length ws / itemSize
+    → keyedItems pool (restLeft ws i x) ≡ asItems (pieceItem pool x) ++ keyedItems pool (setsLeft ws (i + 1))
+keyed-rest pool ws i x h = rw (rest-more ws i x h) (keyed-cons pool x (setsLeft ws (i + 1)))
 
 -- ---- how many items are left at most
 
-one-at-most : (m : MaybeItem) → length (asItems m) ≤ 1
-one-at-most NoItem = omega arith
-one-at-most (Item q) = omega arith
-
-convert-length : (pool : List ℕ) (S : List RangeSet) → length (convertAll pool S) ≤ length S
-unfolding convertAll
-convert-length pool [] = omega arith
-convert-length pool (s ∷ S) = rw length-append (omega (arith, one-at-most (toQueryItem pool s), convert-length pool S))
+keyed-length : (pool : List ℕ) (S : List RangeSet) → length (keyedItems pool S) ≤ length S
+keyed-length pool [] = rw (keyed-none pool) (omega arith)
+keyed-length pool (s ∷ S) = rw (keyed-cons pool s S, length-append) (omega (arith, one (pieceItem pool s), keyed-length pool S))
 
 length-left : (ws : List ℕ) (i k : ℕ) → length (map rangeOf (itemsFrom ws i k)) ≡ k
 unfolding itemsFrom
@@ -70,6 +64,6 @@ length-head : (x : RangeSet) (S : List RangeSet) → length (withHead x S) ≡ l
 length-head x [] = refl
 length-head x (s ∷ S) = refl
 
-pub rest-few : (pool ws : List ℕ) (i : ℕ) (x : RangeSet) → length (convertAll pool (restLeft ws i x)) ≤ length ws / itemSize - i
+pub rest-few : (pool ws : List ℕ) (i : ℕ) (x : RangeSet) → length (keyedItems pool (restLeft ws i x)) ≤ length ws / itemSize - i
 rest-few pool ws i x =
-    omega (arith, convert-length pool (restLeft ws i x), length-head x (setsLeft ws i), length-left ws i (length ws / itemSize - i))
+    omega (arith, keyed-length pool (restLeft ws i x), length-head x (setsLeft ws i), length-left ws i (length ws / itemSize - i))

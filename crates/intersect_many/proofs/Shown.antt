@@ -2,7 +2,7 @@
 -- the same as intervals are written as the same items, by kind and key bytes. Assumes nothing.
 use Prim.Native.Nat.{ℕ, _+_, _≤_}
 use mathlib.Core.Path.{_≡_, refl, sym, ap, ap₂, _∙_}
-use mathlib.Core.Bool.{Bool, true, false, cond}
+use mathlib.Core.Bool.{Bool, true, false, cond, not}
 use mathlib.Core.List.{List, [], _∷_, map, map-append}
 use native.Mathlib.Omega.{arith}
 use lib.ListN.{length}
@@ -33,8 +33,11 @@ use Rattle.query_item.specs.declared.MaybeItem.the-variants.{Item}
 use Rattle.query_item.specs.Items.{bytesOf, wordsOf, same}
 use Rattle.query_item.specs.Boundaries.{boundaryOf, compareIn, fromTo, itemBetween, toQueryItem}
 use Rattle.query_item.proofs.Laws.{rankIn, rank-says-in}
+use Rattle.intervals.specs.Lists.{keep}
 use Rattle.intervals.proofs.Laws.{All}
 use Rattle.item_lists.specs.Written.{asItems}
+use Rattle.keyless.specs.Keyless.{keyless, keyed}
+use Rattle.keyless.proofs.Laws.{keyless-same}
 use Rattle.intersect_many.specs.Lists.{convertAll}
 use Rattle.intersect_many.specs.Demand.{Shown, shown}
 use Rattle.intersect_many.proofs.Carried.{iv, Fine}
@@ -158,6 +161,26 @@ module _ (pool : List ℕ) (n : ℕ) (fits : size pool ≤ n) where
       let starts : rk (s .start) ≡ rk (t .start) = ap (λ (p : ℕ × ℕ). p .0) head in
       let ends : rk (s .end) + 1 ≡ rk (t .end) + 1 = ap (λ (p : ℕ × ℕ). p .1) head in
       ap₂ _∷_ (ap₂ told (rank-same (s .start) (t .start) starts) (rank-same (s .end) (t .end) (omega arith))) (same-told S T tail)
+
+  -- the same intervals, the same ones without a key
+  pub same-keyed : (S T : List RangeSet) → map (iv pool n fits) S ≡ map (iv pool n fits) T
+      → map (iv pool n fits) (keyed pool S) ≡ map (iv pool n fits) (keyed pool T)
+  unfolding keep
+  same-keyed [] [] e = refl
+  same-keyed [] (t ∷ T) e = absurd (omega (arith, ap length e))
+  same-keyed (s ∷ S) [] e = absurd (omega (arith, ap length e))
+  same-keyed (s ∷ S) (t ∷ T) e =
+      let head : iv pool n fits s ≡ iv pool n fits t = cc in
+      let tail : map (iv pool n fits) S ≡ map (iv pool n fits) T = cc in
+      let starts : rk (s .start) ≡ rk (t .start) = ap (λ (p : ℕ × ℕ). p .0) head in
+      let ends : rk (s .end) + 1 ≡ rk (t .end) + 1 = ap (λ (p : ℕ × ℕ). p .1) head in
+      rw (keyless-same pool s t (rank-same (s .start) (t .start) starts) (rank-same (s .end) (t .end) (omega arith)))
+      (go (keyless pool t) head (same-keyed S T tail))
+    where
+      go : (k : Bool) → iv pool n fits s ≡ iv pool n fits t → map (iv pool n fits) (keyed pool S) ≡ map (iv pool n fits) (keyed pool T)
+          → map (iv pool n fits) (cond (not k) (s ∷ keyed pool S) (keyed pool S)) ≡ map (iv pool n fits) (cond (not k) (t ∷ keyed pool T) (keyed pool T))
+      go true h e = e
+      go false h e = ap₂ _∷_ h e
 
   -- the same intervals, the same items
   pub same-shown : (S T : List RangeSet) → All (Fine pool n fits) S → All (Fine pool n fits) T → map (iv pool n fits) S ≡ map (iv pool n fits) T

@@ -14,7 +14,8 @@ use Rattle.key_order.proofs.Line.{size}
 use Rattle.query_item.specs.declared.RangeSetItem.{RangeSetItem}
 use Rattle.query_item.specs.declared.RangeSet.{RangeSet}
 use Rattle.query_item.specs.Items.{itemSize}
-use Rattle.query_item.specs.Boundaries.{compareIn, setAt, toQueryItem}
+use Rattle.query_item.specs.Boundaries.{compareIn, setAt}
+use Rattle.keyless.specs.Keyless.{pieceItem}
 use Rattle.query_item.proofs.Laws.{rankIn, at-most-rank, rank-says-in}
 use Rattle.item_check.specs.Checks.{mostItems, itemsOf}
 use Rattle.item_check.proofs.Laws.{AcceptedList}
@@ -24,9 +25,9 @@ use Rattle.intervals.proofs.Laws.{stripOf, strip-first, strip-second, strip-nil
 use Rattle.intersect_many.specs.declared.ManyCounts.{ManyCounts}
 use Rattle.item_lists.specs.Written.{asItems}
 use Rattle.intersect.specs.Pair.{before, meetSets, leftOver}
-use Rattle.intersect_many.specs.Lists.{setsOf, convertAll, sharedItems, cutSets, onlyItems}
+use Rattle.intersect_many.specs.Lists.{setsOf, keyedItems, sharedItems, cutSets, onlyItems}
 use Rattle.intersect_many.specs.Sweep.{rightSet, setsLeft, restLeft, Put, Turn}
-use Rattle.intersect_many.proofs.Pieces.{convert-append, convert-whole, put-none-converted, meet-few, left-few}
+use Rattle.intersect_many.proofs.Pieces.{keyed-append, keyed-none, keyed-one, put-none-keyed, meet-few, left-few}
 use Rattle.intersect_many.proofs.Ranked as ranked
 use Rattle.intersect_many.proofs.Written.{Left, left-start, left-put, left-as}
 use Rattle.intersect_many.proofs.Rests.{sets-all, sets-end, sets-more, rest-end, rest-more, rest-whole}
@@ -82,7 +83,7 @@ module _ (pool : List ℕ) where
   -- ---- one side's own list: of the item at its index i, x is left; j is the other side's index
 
   pub record Only (own other out₀ out : List ℕ) (n i j : ℕ) (x : RangeSet) : Type 0 where
-    pub left : Left (onlyItems pool own other) out₀ 0 out n (convertAll pool (strip (restLeft own i x) (setsLeft other j)))
+    pub left : Left (onlyItems pool own other) out₀ 0 out n (keyedItems pool (strip (restLeft own i x) (setsLeft other j)))
     pub ascends : Ascends 0 (restLeft own i x)
     pub same-end : x .end ≡ setAt own i .end
     pub above : rk (setAt own i .start) ≤ rk (x .start)
@@ -91,7 +92,7 @@ module _ (pool : List ℕ) where
   unfolding onlyItems
   only-start own other out a b = record {
     left = left-as (left-start (onlyItems pool own other) out 0) _
-        (ap (convertAll pool) (rw (rest-whole own 0, sets-all own, sets-all other) (sym (strip-is-without cutting (setsOf own) (setsOf other) (rw sets-all at a) (rw sets-all at b)))));
+        (ap (keyedItems pool) (rw (rest-whole own 0, sets-all own, sets-all other) (sym (strip-is-without cutting (setsOf own) (setsOf other) (rw sets-all at a) (rw sets-all at b)))));
     ascends = rw (rest-whole own 0) a;
     same-end = refl;
     above = le-refl (rk (setAt own 0 .start));
@@ -100,17 +101,17 @@ module _ (pool : List ℕ) where
   module _ (own other out₀ : List ℕ) {out out′ : List ℕ} {n n′ : ℕ} (i j : ℕ) (x : RangeSet) (v : Only own other out₀ out n i j x)
       (hi : i < length own / itemSize) (hj : j < length other / itemSize)
       (a : Ascends 0 (setsLeft own i)) (b : Ascends 0 (setsLeft other j))
-      (p : Put out n (convertAll pool (leftOver pool x (setAt other j))) out′ n′) where
+      (p : Put out n (keyedItems pool (leftOver pool x (setAt other j))) out′ n′) where
     first-left : strip (restLeft own i x) (setsLeft other j) ≡ strip (x ∷ setsLeft own (i + 1)) (setAt other j ∷ setsLeft other (j + 1))
     first-left = rw (rest-more own i x hi, sets-more other j hj)
 
     -- the side's own item ends first, or with the other
     pub only-next : rk (setAt own i .end) ≤ rk (setAt other j .end) → Only own other out₀ out′ n′ (i + 1) j (setAt own (i + 1))
     only-next l = record {
-      left = left-put (v .left) (convertAll pool (leftOver pool x (setAt other j))) _
-          (ap (convertAll pool)
+      left = left-put (v .left) (keyedItems pool (leftOver pool x (setAt other j))) _
+          (ap (keyedItems pool)
           (first-left ∙ strip-first (leftOver pool) (rightSet pool) endsFirst x (setsLeft own (i + 1)) (setAt other j) (setsLeft other (j + 1)) (ends-yes x (setAt other j) (rw (v .same-end) l)))
-          ∙ convert-append pool (leftOver pool x (setAt other j)) _
+          ∙ keyed-append pool (leftOver pool x (setAt other j)) _
           ∙ rw (rest-whole own (i + 1), ← sets-more other j hj))
           p;
       ascends = rw (rest-whole own (i + 1)) (next-ascends-0 own i hi a);
@@ -125,10 +126,10 @@ module _ (pool : List ℕ) where
         let rest = rw (rest-more own i x hi) at (v .ascends) in
         let item = rw (sets-more other j hj) at b in
         record {
-          left = left-put (v .left) (convertAll pool (leftOver pool x (setAt other j))) _
-              (ap (convertAll pool)
+          left = left-put (v .left) (keyedItems pool (leftOver pool x (setAt other j))) _
+              (ap (keyedItems pool)
               (first-left ∙ strip-second (leftOver pool) (rightSet pool) endsFirst x (setsLeft own (i + 1)) (setAt other j) (setsLeft other (j + 1)) (ends-no x (setAt other j) l′))
-              ∙ convert-append pool (leftOver pool x (setAt other j)) _
+              ∙ keyed-append pool (leftOver pool x (setAt other j)) _
               ∙ rw (← rest-more own i (rightSet pool x (setAt other j)) hi))
               p;
           ascends = rw (rest-more own i (rightSet pool x (setAt other j)) hi) (
@@ -145,7 +146,7 @@ module _ (pool : List ℕ) where
     only-both e =
         let next = only-next (omega arith) in
         record {
-          left = left-as (next .left) _ (ap (convertAll pool) (rw (rest-whole own (i + 1), sets-more other j hj)
+          left = left-as (next .left) _ (ap (keyedItems pool) (rw (rest-whole own (i + 1), sets-more other j hj)
               (strip-skip cutting (setsLeft own (i + 1)) (setAt other j) (setsLeft other (j + 1))
               (above-le Good low high (high (setAt other j)) (high (setAt own i)) (setsLeft own (i + 1)) (omega arith) (next-ascends own i hi a))
               (rw (sets-more other j hj) at b))));
@@ -157,7 +158,7 @@ module _ (pool : List ℕ) where
   -- the other list has ended, or this one
   pub only-end : {own other out₀ out : List ℕ} {n : ℕ} (i j : ℕ) (x : RangeSet) → Only own other out₀ out n i j x
       → (length own / itemSize ≤ i) ⊎ (length other / itemSize ≤ j)
-      → Left (onlyItems pool own other) out₀ 0 out n (convertAll pool (restLeft own i x))
+      → Left (onlyItems pool own other) out₀ 0 out n (keyedItems pool (restLeft own i x))
   unfolding stripOf
   only-end {own} {other} i j x v (inl h) = left-as (v .left) _ (rw (rest-end own i x h))
   only-end {own} {other} i j x v (inr h) = left-as (v .left) _ (rw (sets-end other j h, strip-nil (leftOver pool) (rightSet pool) endsFirst (restLeft own i x)))
@@ -165,40 +166,40 @@ module _ (pool : List ℕ) where
   -- ---- the shared list
 
   abbrev pub Shared : (ours theirs out₀ out : List ℕ) (n i j : ℕ) → Type 0
-  Shared ours theirs out₀ out n i j = Left (sharedItems pool ours theirs) out₀ 0 out n (convertAll pool (sweep (setsLeft ours i) (setsLeft theirs j)))
+  Shared ours theirs out₀ out n i j = Left (sharedItems pool ours theirs) out₀ 0 out n (keyedItems pool (sweep (setsLeft ours i) (setsLeft theirs j)))
 
   pub shared-start : (ours theirs out : List ℕ) → Ascends 0 (setsLeft ours 0) → Ascends 0 (setsLeft theirs 0) → Shared ours theirs out out 0 0 0
   unfolding sharedItems
   shared-start ours theirs out a b =
       left-as (left-start (sharedItems pool ours theirs) out 0) _
-      (ap (convertAll pool) (rw (sets-all ours, sets-all theirs) (sym (sweep-is-shared meeting (setsOf ours) (setsOf theirs) (rw sets-all at a) (rw sets-all at b)))))
+      (ap (keyedItems pool) (rw (sets-all ours, sets-all theirs) (sym (sweep-is-shared meeting (setsOf ours) (setsOf theirs) (rw sets-all at a) (rw sets-all at b)))))
 
   module _ (ours theirs out₀ : List ℕ) {out out′ : List ℕ} {n n′ : ℕ} (i j : ℕ) (v : Shared ours theirs out₀ out n i j)
       (hi : i < length ours / itemSize) (hj : j < length theirs / itemSize)
       (a : Ascends 0 (setsLeft ours i)) (b : Ascends 0 (setsLeft theirs j))
-      (p : Put out n (convertAll pool (meetSets pool (setAt ours i) (setAt theirs j))) out′ n′) where
+      (p : Put out n (keyedItems pool (meetSets pool (setAt ours i) (setAt theirs j))) out′ n′) where
     heads : sweep (setsLeft ours i) (setsLeft theirs j) ≡ sweep (setAt ours i ∷ setsLeft ours (i + 1)) (setAt theirs j ∷ setsLeft theirs (j + 1))
     heads = rw (sets-more ours i hi, sets-more theirs j hj)
 
     pub shared-next : rk (setAt ours i .end) ≤ rk (setAt theirs j .end) → Shared ours theirs out₀ out′ n′ (i + 1) j
     shared-next l =
-        left-put v (convertAll pool (meetSets pool (setAt ours i) (setAt theirs j))) _
-        (ap (convertAll pool) (heads ∙ sweep-first (meetSets pool) endsFirst (setAt ours i) (setsLeft ours (i + 1)) (setAt theirs j) (setsLeft theirs (j + 1)) (ends-yes (setAt ours i) (setAt theirs j) l))
-        ∙ convert-append pool (meetSets pool (setAt ours i) (setAt theirs j)) _
+        left-put v (keyedItems pool (meetSets pool (setAt ours i) (setAt theirs j))) _
+        (ap (keyedItems pool) (heads ∙ sweep-first (meetSets pool) endsFirst (setAt ours i) (setsLeft ours (i + 1)) (setAt theirs j) (setsLeft theirs (j + 1)) (ends-yes (setAt ours i) (setAt theirs j) l))
+        ∙ keyed-append pool (meetSets pool (setAt ours i) (setAt theirs j)) _
         ∙ rw (← sets-more theirs j hj))
         p
 
     pub shared-cut : rk (setAt theirs j .end) < rk (setAt ours i .end) → Shared ours theirs out₀ out′ n′ i (j + 1)
     shared-cut l =
-        left-put v (convertAll pool (meetSets pool (setAt ours i) (setAt theirs j))) _
-        (ap (convertAll pool) (heads ∙ sweep-second (meetSets pool) endsFirst (setAt ours i) (setsLeft ours (i + 1)) (setAt theirs j) (setsLeft theirs (j + 1)) (ends-no (setAt ours i) (setAt theirs j) l))
-        ∙ convert-append pool (meetSets pool (setAt ours i) (setAt theirs j)) _
+        left-put v (keyedItems pool (meetSets pool (setAt ours i) (setAt theirs j))) _
+        (ap (keyedItems pool) (heads ∙ sweep-second (meetSets pool) endsFirst (setAt ours i) (setsLeft ours (i + 1)) (setAt theirs j) (setsLeft theirs (j + 1)) (ends-no (setAt ours i) (setAt theirs j) l))
+        ∙ keyed-append pool (meetSets pool (setAt ours i) (setAt theirs j)) _
         ∙ rw (← sets-more ours i hi))
         p
 
     pub shared-both : rk (setAt ours i .end) ≡ rk (setAt theirs j .end) → Shared ours theirs out₀ out′ n′ (i + 1) (j + 1)
     shared-both e =
-        left-as (shared-next (omega arith)) _ (ap (convertAll pool) (rw (sets-more theirs j hj)
+        left-as (shared-next (omega arith)) _ (ap (keyedItems pool) (rw (sets-more theirs j hj)
         (sweep-skip meeting (setsLeft ours (i + 1)) (setAt theirs j) (setsLeft theirs (j + 1))
         (above-le Good low high (high (setAt theirs j)) (high (setAt ours i)) (setsLeft ours (i + 1)) (omega arith) (next-ascends ours i hi a))
         (rw (sets-more theirs j hj) at b))))
@@ -206,9 +207,9 @@ module _ (pool : List ℕ) where
   pub shared-end : (ours theirs : List ℕ) {out₀ out : List ℕ} {n : ℕ} (i j : ℕ) → Shared ours theirs out₀ out n i j
       → (length ours / itemSize ≤ i) ⊎ (length theirs / itemSize ≤ j)
       → Left (sharedItems pool ours theirs) out₀ 0 out n []
-  unfolding sweepOf convertAll
-  shared-end ours theirs i j v (inl h) = left-as v [] (rw (sets-end ours i h))
-  shared-end ours theirs i j v (inr h) = left-as v [] (rw (sets-end theirs j h, sweep-nil (meetSets pool) endsFirst (setsLeft ours i)))
+  unfolding sweepOf
+  shared-end ours theirs i j v (inl h) = left-as v [] (rw (sets-end ours i h) (keyed-none pool))
+  shared-end ours theirs i j v (inr h) = left-as v [] (rw (sets-end theirs j h, sweep-nil (meetSets pool) endsFirst (setsLeft ours i)) (keyed-none pool))
 
   -- ---- all three
 
@@ -288,17 +289,17 @@ module _ (pool : List ℕ) where
     }
 
     module _ (both′ mine′ yours′ : List ℕ) (n′ : ManyCounts)
-        (p : Put both (n .«in_both») (convertAll pool (meetSets pool a b)) both′ (n′ .«in_both»))
-        (q : Put mine (n .ours) (convertAll pool (leftOver pool x b)) mine′ (n′ .ours))
-        (r : Put yours (n .theirs) (convertAll pool (leftOver pool y a)) yours′ (n′ .theirs))
+        (p : Put both (n .«in_both») (keyedItems pool (meetSets pool a b)) both′ (n′ .«in_both»))
+        (q : Put mine (n .ours) (keyedItems pool (leftOver pool x b)) mine′ (n′ .ours))
+        (r : Put yours (n .theirs) (keyedItems pool (leftOver pool y a)) yours′ (n′ .theirs))
         (x′ y′ : RangeSet) where
-      p′ : Put both (n .«in_both») (convertAll pool (meetSets pool (setAt ours i) (setAt theirs j))) both′ (n′ .«in_both»)
+      p′ : Put both (n .«in_both») (keyedItems pool (meetSets pool (setAt ours i) (setAt theirs j))) both′ (n′ .«in_both»)
       p′ = rw (← at-a, ← at-b) p
 
-      q′ : Put mine (n .ours) (convertAll pool (leftOver pool x (setAt theirs j))) mine′ (n′ .ours)
+      q′ : Put mine (n .ours) (keyedItems pool (leftOver pool x (setAt theirs j))) mine′ (n′ .ours)
       q′ = rw (← at-b) q
 
-      r′ : Put yours (n .theirs) (convertAll pool (leftOver pool y (setAt ours i))) yours′ (n′ .theirs)
+      r′ : Put yours (n .theirs) (keyedItems pool (leftOver pool y (setAt ours i))) yours′ (n′ .theirs)
       r′ = rw (← at-a) r
 
       -- ours ends first
@@ -363,24 +364,24 @@ module _ (pool : List ℕ) where
 
     -- ours stands before theirs: what is left of it is ours alone
     pub swept-before : (mine′ : List ℕ) (n′ : ManyCounts) (x′ : RangeSet) → before pool a b ≡ true → n′ .«in_both» ≡ n .«in_both» → n′ .theirs ≡ n .theirs
-        → Put mine (n .ours) (asItems (toQueryItem pool x)) mine′ (n′ .ours) → x′ ≡ setAt ours (i + 1)
+        → Put mine (n .ours) (asItems (pieceItem pool x)) mine′ (n′ .ours) → x′ ≡ setAt ours (i + 1)
         → Swept ours theirs both₀ mine₀ yours₀ both mine′ yours n′ (i + 1) j x′ y
     swept-before mine′ n′ x′ f p q r g =
         let k = ranked.apart pool (size pool) (le-refl (size pool)) a b x y good-a good-b good-x good-y end-x above-y f in
         swept-less both mine′ yours n′
-        (rw (p, k .shared) (put-none-converted pool both (n .«in_both»)))
-        (rw (k .whole) (rw (← convert-whole pool x) at r))
-        (rw (q, k .none) (put-none-converted pool yours (n .theirs)))
+        (rw (p, k .shared) (put-none-keyed pool both (n .«in_both»)))
+        (rw (k .whole) (rw (← keyed-one pool x) at r))
+        (rw (q, k .none) (put-none-keyed pool yours (n .theirs)))
         x′ y (k .sooner) g (sym (k .kept))
 
     -- and theirs before ours
     pub swept-after : (yours′ : List ℕ) (n′ : ManyCounts) (y′ : RangeSet) → before pool b a ≡ true → n′ .«in_both» ≡ n .«in_both» → n′ .ours ≡ n .ours
-        → Put yours (n .theirs) (asItems (toQueryItem pool y)) yours′ (n′ .theirs) → y′ ≡ setAt theirs (j + 1)
+        → Put yours (n .theirs) (asItems (pieceItem pool y)) yours′ (n′ .theirs) → y′ ≡ setAt theirs (j + 1)
         → Swept ours theirs both₀ mine₀ yours₀ both mine yours′ n′ i (j + 1) x y′
     swept-after yours′ n′ y′ f p q r g =
         let k = ranked.apart pool (size pool) (le-refl (size pool)) b a y x good-b good-a good-y good-x end-y above-x f in
         swept-greater both mine yours′ n′
-        (rw (p, k .shared-past) (put-none-converted pool both (n .«in_both»)))
-        (rw (q, k .none) (put-none-converted pool mine (n .ours)))
-        (rw (k .whole) (rw (← convert-whole pool y) at r))
+        (rw (p, k .shared-past) (put-none-keyed pool both (n .«in_both»)))
+        (rw (q, k .none) (put-none-keyed pool mine (n .ours)))
+        (rw (k .whole) (rw (← keyed-one pool y) at r))
         x y′ (k .sooner) (sym (k .kept)) g

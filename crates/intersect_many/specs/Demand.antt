@@ -1,13 +1,15 @@
 -- What demand 3 speaks of: the lists as words, the keys that a list holds, and items that are the same by kind and key bytes. Definitions only.
--- It serves 01 demand.3, tight.7. Assumes nothing.
+-- It serves 01 demand.3, tight.7, and 02 §2.5. Assumes nothing.
 use Prim.Native.Nat.{ℕ, _≤_}
 use mathlib.Core.Path.{_≡_}
-use mathlib.Core.Bool.{Bool}
+use mathlib.Core.Bool.{Bool, true}
 use mathlib.Core.List.{List, [], _∷_, map}
 use lib.ListN.{length}
 use Rattle.query_item.specs.declared.ItemWords.{ItemWords}
 use Rattle.query_item.specs.declared.QueryItem.{QueryItem}
-use Rattle.query_item.specs.Items.{bytesOf, holdsAny}
+use Rattle.query_item.specs.Items.{bytesOf, queryItem, holds, holdsAny}
+use Rattle.query_item.specs.Boundaries.{rangeOf}
+use Rattle.keyless.specs.Keyless.{firstOf}
 use Rattle.item_check.specs.Checks.{accepted, mostItems, itemsOf, checkVerdict}
 use Rattle.intersect_many.specs.Lists.{sharedItems, onlyItems, wordsAll}
 
@@ -29,6 +31,11 @@ Fits Q = length Q ≤ mostItems
 -- a list of words holds a key when one of its items does
 abbrev pub listHolds : List ℕ → List ℕ → List ℕ → Bool
 listHolds pool ws k = holdsAny pool (itemsOf ws) k
+
+-- 02 §2.1: each item of a list holds a key, the first at or past its start: none stands in it that holds no key
+abbrev pub EachHolds : List ℕ → List ItemWords → Type 0
+EachHolds pool [] = Unit {0}
+EachHolds pool (it ∷ its) = (holds pool (queryItem it) (firstOf pool (rangeOf it)) ≡ true) × EachHolds pool its
 
 -- an item's kind, wrapper and key bytes
 abbrev pub Shown : Type 0

@@ -1,4 +1,4 @@
--- Module 4 of document 01: the three lists of two lists of items. Definitions only. Assumes nothing.
+-- Module 4 of document 01: the three lists of two lists of items, without the ranges that hold no key (02 §2.6). Definitions only. Assumes nothing.
 use Prim.Native.Nat.{ℕ}
 use mathlib.Core.List.{List, [], _∷_, _++_, map}
 use mathlib.Core.Bool.{Bool, cond, _||_}
@@ -8,6 +8,7 @@ use Rattle.query_item.specs.declared.QueryItem.{QueryItem}
 use Rattle.query_item.specs.declared.RangeSet.{RangeSet}
 use Rattle.query_item.specs.Items.{flatAll}
 use Rattle.query_item.specs.Boundaries.{rangeOf, toQueryItem}
+use Rattle.keyless.specs.Keyless.{keyed}
 use Rattle.item_check.specs.Checks.{Answer, answered, refused, Verdict, accepted, andThen, refusedAs, poolVerdict, listVerdict, itemsOf}
 use Rattle.item_lists.specs.Written.{asItems, plain, passes}
 use Rattle.intersect_many.specs.declared.ManyCounts.{ManyCounts}
@@ -19,14 +20,9 @@ use Rattle.intersect.specs.Pair.{meetSets, leftOver, rightOver}
 abbrev pub setsOf : List ℕ → List RangeSet
 setsOf ws = map rangeOf (itemsOf ws)
 
--- 01 m4.4: all output is converted
-unfoldable pub convertAll : List ℕ → List RangeSet → List QueryItem
-convertAll pool [] = []
-convertAll pool (s ∷ S) = asItems (toQueryItem pool s) ++ convertAll pool S
-
--- 01 m4.1: shared: over ours in order, then theirs in order, each pair's shared item
-unfoldable pub sharedItems : List ℕ → List ℕ → List ℕ → List QueryItem
-sharedItems pool ours theirs = convertAll pool (sharedOf (meetSets pool) (setsOf ours) (setsOf theirs))
+-- 01 m4.1: shared: over ours in order, then theirs in order, what each pair shares
+abbrev pub sharedSets : List ℕ → List ℕ → List ℕ → List RangeSet
+sharedSets pool ours theirs = sharedOf (meetSets pool) (setsOf ours) (setsOf theirs)
 
 -- 01 m4.2: one of ours with one of theirs removed: the pair's leftovers of ours
 abbrev pub cutSets : List ℕ → RangeSet → RangeSet → List RangeSet
@@ -34,8 +30,25 @@ cutSets pool a b = leftOver pool a b ++ rightOver pool a b
 
 -- 01 m4.2, m4.3: ours-only: each of our items with all of theirs removed, pieces ascending; theirs-only: with sides exchanged.
 -- Reading A26: an item that is cut several times is cut as boundaries, and converted once at the end
+abbrev pub onlySets : List ℕ → List ℕ → List ℕ → List RangeSet
+onlySets pool ours theirs = withoutOf (cutSets pool) (setsOf ours) (setsOf theirs)
+
+-- 01 m4.4: all output is converted
+unfoldable pub convertAll : List ℕ → List RangeSet → List QueryItem
+convertAll pool [] = []
+convertAll pool (s ∷ S) = asItems (toQueryItem pool s) ++ convertAll pool S
+
+-- 02 §2.1: no piece that holds no key stands in a result list: its ranges without these, converted. Reading B7: they are left out last, when
+-- all is cut
+unfoldable pub keyedItems : List ℕ → List RangeSet → List QueryItem
+keyedItems pool S = convertAll pool (keyed pool S)
+
+-- 01 m4.1, m4.2, m4.3: the result lists: shared, and ours-only or, with sides exchanged, theirs-only
+unfoldable pub sharedItems : List ℕ → List ℕ → List ℕ → List QueryItem
+sharedItems pool ours theirs = keyedItems pool (sharedSets pool ours theirs)
+
 unfoldable pub onlyItems : List ℕ → List ℕ → List ℕ → List QueryItem
-onlyItems pool ours theirs = convertAll pool (withoutOf (cutSets pool) (setsOf ours) (setsOf theirs))
+onlyItems pool ours theirs = keyedItems pool (onlySets pool ours theirs)
 
 -- 01 change.1: as the words that are written
 abbrev pub wordsAll : List QueryItem → List ℕ

@@ -1,4 +1,4 @@
-// Module 4 of document 01: the three lists of two lists of items. The crate `intersect` has the pair.
+// Module 4 of document 01: the three lists of two lists of items, without what holds no key (02 §2.1). The crate `intersect` has the pair.
 // Definitions: specs/Lists.antt (specs/Sweep.antt is what the pass goes by). Laws: proofs/Demands.antt, which speak by specs/Demand.antt.
 //
 // One pass over both lists with two indexes. What is left of our item and of theirs, at the indexes, is kept beside them.
@@ -10,13 +10,13 @@ ghost use lib.ListN.{length};
 ghost use Rattle.query_item.specs.Items.{itemSize};
 ghost use Rattle.item_check.specs.Checks.{verdictOf, accepted, listVerdict};
 ghost use Rattle.item_lists.specs.Written.{asItems, plain, written};
-ghost use Rattle.intersect.specs.Pair.{meetSets, leftPart, leftOver};
-ghost use Rattle.intersect_many.specs.Lists.{convertAll, sharedItems, onlyItems, manyOf, bothVerdict, listsVerdict, lacksRoom, countsOf, roomAnswer, manyAnswer};
+ghost use Rattle.intersect.specs.Pair.{meetSets, leftPart, leftOver, asSets};
+ghost use Rattle.intersect_many.specs.Lists.{keyedItems, sharedItems, onlyItems, manyOf, bothVerdict, listsVerdict, lacksRoom, countsOf, roomAnswer, manyAnswer};
 ghost use Rattle.intersect_many.specs.Sweep.{rightSet, restLeft, standOf, Put, Few, Turn};
 use boundary::is_at_most;
 use boundary::is_less;
+use intersect::MaybeSet;
 use intersect::pair::is_before;
-use intersect::pair::item_of;
 use intersect::pair::left_part;
 use intersect::pair::overlap_by;
 use item_check::Checked;
@@ -28,6 +28,7 @@ use item_lists::passes_room;
 use item_lists::put_item;
 use item_words::ITEM_SIZE;
 use key_order::Ordering;
+use keyless::piece_item;
 use query_item::MaybeItem;
 use query_item::RangeSet;
 use query_item::pooled::compare_in;
@@ -55,7 +56,7 @@ enum Stand {
 
 // What two lists share, what ours keeps without theirs, and what theirs keeps without ours, written to the front of three lists, with their
 // counts. No more than one item a turn for each, and each turn moves an index: at most as many items as both lists have (01 m4.1, m4.2,
-// m4.3, demand.1).
+// m4.3, demand.1). A piece that holds no key is left out, and an item of the input that holds none still cuts (02 §2.1, §2.3).
 pub fn intersect_many_ordered(
     pool: &[u8],
     ours: &[u32],
@@ -115,12 +116,22 @@ fn how_they_stand(pool: &[u8], a: RangeSet, b: RangeSet) -> Stand
 
 // What of a starts below b, as an item, where it is not known that none does.
 fn left_item(pool: &[u8], may: bool, a: RangeSet, b: RangeSet) -> MaybeItem
-    ensures { λ r. ⌜ asItems r ≡ convertAll (now (pool .entry)) (cond may (leftPart (now (pool .entry)) a b) []) ⌝ }
+    ensures { λ r. ⌜ asItems r ≡ keyedItems (now (pool .entry)) (cond may (leftPart (now (pool .entry)) a b) []) ⌝ }
 {
     if may {
-        return item_of(pool, left_part(pool, a, b));
+        return piece_of(pool, left_part(pool, a, b));
     }
     MaybeItem::NoItem
+}
+
+// The item of a piece that may be missing; none where it holds no key.
+fn piece_of(pool: &[u8], set: MaybeSet) -> MaybeItem
+    ensures { λ r. ⌜ asItems r ≡ keyedItems (now (pool .entry)) (asSets set) ⌝ }
+{
+    match set {
+        MaybeSet::NoSet => MaybeItem::NoItem,
+        MaybeSet::Set(s) => piece_item(pool, s),
+    }
 }
 
 // A turn's items where a and b meet: what they share, and what of each, of which x and y are left, starts below the other.
@@ -137,9 +148,9 @@ fn emit(
     n: ManyCounts,
 ) -> ManyCounts
     requires { ⌜ Turn (now pool) ends a b x y n ⌝ }
-    ensures { λ r. ⌜ Put (now (both .entry)) (n .«in_both») (convertAll (now (pool .entry)) (meetSets (now (pool .entry)) a b)) (now (both .exit)) (r .«in_both») ⌝ }
-    ensures { λ r. ⌜ Put (now (ours .entry)) (n .ours) (convertAll (now (pool .entry)) (leftOver (now (pool .entry)) x b)) (now (ours .exit)) (r .ours) ⌝ }
-    ensures { λ r. ⌜ Put (now (theirs .entry)) (n .theirs) (convertAll (now (pool .entry)) (leftOver (now (pool .entry)) y a)) (now (theirs .exit)) (r .theirs) ⌝ }
+    ensures { λ r. ⌜ Put (now (both .entry)) (n .«in_both») (keyedItems (now (pool .entry)) (meetSets (now (pool .entry)) a b)) (now (both .exit)) (r .«in_both») ⌝ }
+    ensures { λ r. ⌜ Put (now (ours .entry)) (n .ours) (keyedItems (now (pool .entry)) (leftOver (now (pool .entry)) x b)) (now (ours .exit)) (r .ours) ⌝ }
+    ensures { λ r. ⌜ Put (now (theirs .entry)) (n .theirs) (keyedItems (now (pool .entry)) (leftOver (now (pool .entry)) y a)) (now (theirs .exit)) (r .theirs) ⌝ }
 {
     let our_start = a.start;
     let their_start = b.start;
@@ -148,7 +159,7 @@ fn emit(
         in_both: put(
             both,
             n.in_both,
-            overlap_by(starts, ends, a, b).to_query_item(pool),
+            piece_item(pool, overlap_by(starts, ends, a, b)),
         ),
         ours: put(ours, n.ours, left_item(pool, is_less(starts), x, b)),
         theirs: put(theirs, n.theirs, left_item(pool, !is_at_most(starts), y, a)),
@@ -158,16 +169,16 @@ fn emit(
 // What is left of a list from an index on, of whose item there x is left, once the other list has ended.
 fn put_rest(pool: &[u8], words: &[u32], i: usize, x: RangeSet, out: &mut [u32], n: usize) -> usize
     requires { ⌜ n + length (now words) / itemSize ≤ 4096 + i ⌝ }
-    ensures { λ r. ⌜ Put (now (out .entry)) n (convertAll (now (pool .entry)) (restLeft (now (words .entry)) i x)) (now (out .exit)) r ⌝ }
+    ensures { λ r. ⌜ Put (now (out .entry)) n (keyedItems (now (pool .entry)) (restLeft (now (words .entry)) i x)) (now (out .exit)) r ⌝ }
 {
     let count = words.len() / ITEM_SIZE;
     if count <= i {
         return n;
     }
-    let mut m = put(out, n, x.to_query_item(pool));
+    let mut m = put(out, n, piece_item(pool, x));
     let mut k = i + 1;
     while k < count {
-        m = put(out, m, set_at(words, k).to_query_item(pool));
+        m = put(out, m, piece_item(pool, set_at(words, k)));
         k += 1;
     }
     m
@@ -224,12 +235,12 @@ fn sweep(
         let b = set_at(theirs, j);
         match how_they_stand(pool, a, b) {
             Stand::Before => {
-                n = with_ours(n, put(mine, n.ours, x.to_query_item(pool)));
+                n = with_ours(n, put(mine, n.ours, piece_item(pool, x)));
                 i += 1;
                 x = set_at(ours, i);
             }
             Stand::After => {
-                n = with_theirs(n, put(yours, n.theirs, y.to_query_item(pool)));
+                n = with_theirs(n, put(yours, n.theirs, piece_item(pool, y)));
                 j += 1;
                 y = set_at(theirs, j);
             }

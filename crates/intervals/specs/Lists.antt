@@ -1,5 +1,7 @@
--- What two lists share, and what one keeps without the other, given what two of their things share and what one thing keeps.
+-- What two lists share, and what one keeps without the other, given what two of their things share and what one thing keeps; and those of a
+-- list that pass a test.
 -- The things are of any type. Definitions only. Assumes nothing.
+use mathlib.Core.Bool.{Bool, cond}
 use mathlib.Core.List.{List, [], _∷_, _++_}
 
 -- 01 m4.1: one of ours with theirs in order, what each pair shares
@@ -21,3 +23,8 @@ cutsOf cut (a ∷ A) b = cut a b ++ cutsOf cut A b
 unfoldable pub withoutOf : {X : Type 0} → (X → X → List X) → List X → List X → List X
 withoutOf cut A [] = A
 withoutOf cut A (b ∷ B) = withoutOf cut (cutsOf cut A b) B
+
+-- 01 m6.10, 02 §2.1: those of a list that f holds of, in order
+unfoldable pub keep : {X : Type 0} → (X → Bool) → List X → List X
+keep f [] = []
+keep f (a ∷ A) = cond (f a) (a ∷ keep f A) (keep f A)

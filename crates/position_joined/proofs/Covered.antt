@@ -6,6 +6,7 @@ use mathlib.Core.List.{List}
 use native.Mathlib.Decide.{decLt}
 use native.Mathlib.Omega.{arith}
 use borrow.Author.Tests.{le-ltb}
+use Rattle.intervals.specs.Lists.{keep}
 use Rattle.intervals.specs.Intervals.{inside}
 use Rattle.intervals.proofs.Members.{inside-yes, inside-past}
 use Rattle.intervals.proofs.Laws.{canonical→strict}
@@ -14,7 +15,6 @@ use Rattle.item_check.specs.Checks.{itemsOf}
 use Rattle.pairs_sort.specs.Pairs.{pairs}
 use Rattle.position_given.specs.Positions.{countUp, positionsOf}
 use Rattle.position_query.specs.Covered.{covered, Covers}
-use Rattle.position_mismatch.specs.Reports.{keep}
 use Rattle.position_mismatch.proofs.Positions.{in-keep, in-count, in-positions, ascends-keep, ascends-count, ascends-positions, ascends-unique}
 
 -- what is covered stands below the count

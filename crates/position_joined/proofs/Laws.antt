@@ -7,6 +7,7 @@ use mathlib.Core.Bool.{Bool, not, _&&_}
 use mathlib.Core.List.{List}
 use lib.Dec.{eqb}
 use lib.ListN.{length, take}
+use Rattle.intervals.specs.Lists.{keep}
 use Rattle.intervals.specs.Intervals.{Interval, holds}
 use Rattle.item_check.specs.Checks.{Answer, answered, accepted, itemsOf}
 use Rattle.pairs_sort.specs.Pairs.{pairs}
@@ -18,7 +19,7 @@ use Rattle.position_given.proofs.Fronts.{front-intervals, front-sound}
 use Rattle.position_intervals.specs.Asked.{containsAnswer, lenAnswer, isEmptyAnswer}
 use Rattle.position_query.specs.Covered.{covered, Covers, FromQueryItems}
 use Rattle.position_report.specs.Reports.{reportOf}
-use Rattle.position_mismatch.specs.Reports.{isIn, keep, missing, extra, firstCrossing, missingAnswer, extraAnswer, spansAnswer}
+use Rattle.position_mismatch.specs.Reports.{isIn, missing, extra, firstCrossing, missingAnswer, extraAnswer, spansAnswer}
 use Rattle.position_mismatch.proofs.Laws.{spans-as-positions}
 use Rattle.position_mismatch.proofs.Positions.{in-positions, ascends-spans, keep-same, keep-keep}
 use Rattle.position_joined.proofs.Covered.{covered-positions}

@@ -5,6 +5,7 @@ use mathlib.Core.Path.{_≡_, refl, sym, ap, _∙_}
 use mathlib.Core.Bool.{Bool, true, false, not, _&&_}
 use mathlib.Core.List.{List}
 use lib.ListN.{length}
+use Rattle.intervals.specs.Lists.{keep}
 use Rattle.intervals.specs.Intervals.{Interval, Canonical}
 use Rattle.intervals.specs.Intervals as interval
 use Rattle.intervals.proofs.Laws.{canonical→strict}
@@ -16,7 +17,7 @@ use Rattle.position_given.specs.Positions.{positionsOf}
 use Rattle.position_given.specs.Inner.{Ascends}
 use Rattle.position_given.proofs.Accepted.{ascending-accepts}
 use Rattle.position_mismatch.specs.declared.Compared.{Compared}
-use Rattle.position_mismatch.specs.Reports.{isIn, keep, missing, extra, present, firstCrossing, missingAnswer, spansAnswer, comparedOf}
+use Rattle.position_mismatch.specs.Reports.{isIn, missing, extra, present, firstCrossing, missingAnswer, spansAnswer, comparedOf}
 use Rattle.position_mismatch.proofs.Positions.{in-keep, in-positions, ascends-keep, ascends-positions, ascends-spans, ascends-unique, keep-parts}
 pub use Rattle.position_mismatch.proofs.Positions.{ascends-unique, in-positions}
 pub use Rattle.position_mismatch.proofs.Steps.{Gives, spans-answer}

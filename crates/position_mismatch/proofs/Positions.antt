@@ -8,13 +8,14 @@ use native.Mathlib.Omega.{arith}
 use lib.Dec.{leb, eqb}
 use lib.ListN.{length}
 use borrow.Author.Tests.{leb-true, eq-eqb, ne-eqb}
+use Rattle.intervals.specs.Lists.{keep}
 use Rattle.intervals.specs.Intervals.{Interval, Above, inside, holds}
 use Rattle.intervals.proofs.Members.{where-is, below, in-it, past, inside-below, inside-yes, inside-past}
 use Rattle.item_check.specs.Checks.{accepted, refused}
 use Rattle.position_given.specs.Positions.{countUp, positionsOf}
 use Rattle.position_given.specs.Inner.{Ascends}
 use Rattle.position_given.proofs.Accepted.{never-accepted}
-use Rattle.position_mismatch.specs.Reports.{isIn, keep, firstCrossing}
+use Rattle.position_mismatch.specs.Reports.{isIn, firstCrossing}
 
 -- ---- members
 
@@ -193,15 +194,6 @@ length-ascends lo hi (p ∷ L) a l h =
     in-later p q L e = elim (ℕ-discrete q p) [ yes k ↦ rw k (in-head p L) | no k ↦ in-tail p q L k ∙ e ]
 
 -- ---- what is kept
-
-pub keep-append : (f : ℕ → Bool) (L M : List ℕ) → keep f (L ++ M) ≡ keep f L ++ keep f M
-unfolding keep
-keep-append f [] M = refl
-keep-append f (p ∷ L) M = go (f p) (keep-append f L M)
-  where
-    go : (t : Bool) → keep f (L ++ M) ≡ keep f L ++ keep f M → cond t (p ∷ keep f (L ++ M)) (keep f (L ++ M)) ≡ cond t (p ∷ keep f L) (keep f L) ++ keep f M
-    go true r = ap {B = List ℕ} (λ l. p ∷ l) r
-    go false r = r
 
 pub keep-same : (f g : ℕ → Bool) (L : List ℕ) → ((p : ℕ) → isIn L p ≡ true → f p ≡ g p) → keep f L ≡ keep g L
 unfolding keep isIn

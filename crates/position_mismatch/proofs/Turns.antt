@@ -11,9 +11,10 @@ use lib.ListN.{length, getD, take, drop}
 use lib.Seq.{take-suc, take-all, drop-cons, length-take-le}
 use lib.Dec.{leb, ltb}
 use borrow.Author.Tests.{lt-ltb, le-ltb, eq-eqb, ne-eqb}
+use Rattle.intervals.specs.Lists.{keep}
 use Rattle.intervals.specs.Intervals.{Interval, Canonical, inside, holds}
 use Rattle.intervals.proofs.Members.{inside-below, inside-yes, inside-past}
-use Rattle.intervals.proofs.Laws.{holds-append}
+use Rattle.intervals.proofs.Laws.{holds-append, keep-append}
 use Rattle.pairs_sort.specs.Pairs.{start, finish, pairsFrom, pairs}
 use Rattle.pairs_sort.proofs.Laws.{pairs-append, pairs-more}
 use Rattle.position_given.specs.Given.{intervalsOf}
@@ -26,9 +27,9 @@ use Rattle.position_report.specs.Reports.{reportOf}
 use Rattle.position_report.specs.Inner.{withRun}
 use Rattle.position_report.proofs.Runs.{run-report}
 use Rattle.position_mismatch.specs.declared.Walk.{Walk}
-use Rattle.position_mismatch.specs.Reports.{isIn, keep, missing, extra}
+use Rattle.position_mismatch.specs.Reports.{isIn, missing, extra}
 use Rattle.position_mismatch.specs.Inner.{walkAt, reportUntil, pairsLeft, overSpan, FirstPast}
-use Rattle.position_mismatch.proofs.Positions.{in-append, in-below, ascends-weaken, keep-append, keep-parts}
+use Rattle.position_mismatch.proofs.Positions.{in-append, in-below, ascends-weaken, keep-parts}
 use Rattle.position_mismatch.proofs.Walks.{Reached, reached-start, reached-over, reached-end}
 
 -- ---- the missing ones

@@ -9,9 +9,10 @@ use native.Mathlib.Omega.{arith}
 use lib.ListN.{length, length-append}
 use lib.Dec.{ltb}
 use borrow.Author.Tests.{lt-ltb, le-ltb}
+use Rattle.intervals.specs.Lists.{keep}
 use Rattle.intervals.specs.Intervals.{Interval, Apart, Canonical, inside, holds}
 use Rattle.intervals.proofs.Members.{where-is, below, in-it, past, inside-below, inside-yes, inside-past}
-use Rattle.intervals.proofs.Laws.{canonical→strict, holds-append}
+use Rattle.intervals.proofs.Laws.{canonical→strict, holds-append, keep-append}
 use Rattle.pairs_sort.specs.Pairs.{start, finish, pairsFrom, pairs}
 use Rattle.pairs_sort.proofs.Laws.{pairs-more, pairs-end, pairs-snoc, pairs-append}
 use Rattle.position_given.specs.Given.{intervalsOf}
@@ -24,9 +25,9 @@ use Rattle.position_report.specs.Reports.{reportOf}
 use Rattle.position_report.specs.Inner.{withRun}
 use Rattle.position_report.proofs.Runs.{run-report}
 use Rattle.position_mismatch.specs.declared.Walk.{Walk}
-use Rattle.position_mismatch.specs.Reports.{isIn, keep, missing}
+use Rattle.position_mismatch.specs.Reports.{isIn, missing}
 use Rattle.position_mismatch.specs.Inner.{walkAt, withGap, reportUntil, pairsLeft, overSpan}
-use Rattle.position_mismatch.proofs.Positions.{in-append, in-keep, in-positions, ascends-keep, ascends-append, ascends-raise, ascends-positions, ascends-unique, length-ascends, keep-append, keep-same, keep-none, keep-run, positions-append}
+use Rattle.position_mismatch.proofs.Positions.{in-append, in-keep, in-positions, ascends-keep, ascends-append, ascends-raise, ascends-positions, ascends-unique, length-ascends, keep-same, keep-none, keep-run, positions-append}
 
 -- ---- a turn
 

@@ -4,6 +4,7 @@ use Prim.Native.Nat.{ℕ, suc}
 use mathlib.Core.List.{List, [], _∷_}
 use mathlib.Core.Bool.{Bool, false, cond, not, _&&_, _||_}
 use lib.Dec.{leb, eqb}
+use Rattle.intervals.specs.Lists.{keep}
 use Rattle.intervals.specs.Intervals.{Interval, holds}
 use Rattle.item_check.specs.Checks.{Answer, answered, refused, Verdict, accepted, andThen, verdictOf}
 use Rattle.position_given.specs.Given.{intervalsOf, intervalsVerdict, provedVerdict}
@@ -18,11 +19,6 @@ use Rattle.position_mismatch.specs.declared.Compared.{Compared}
 unfoldable pub isIn : List ℕ → ℕ → Bool
 isIn [] p = false
 isIn (q ∷ P) p = eqb p q || isIn P p
-
--- 01 m6.10: those of a list that f holds of, in order
-unfoldable pub keep : (ℕ → Bool) → List ℕ → List ℕ
-keep f [] = []
-keep f (p ∷ P) = cond (f p) (p ∷ keep f P) (keep f P)
 
 -- 01 m6.10: missing: covered and not proved
 unfoldable pub missing : List Interval → List ℕ → List ℕ

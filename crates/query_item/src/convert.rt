@@ -79,8 +79,8 @@ impl RangeSet {
     }
 }
 
-// The item that starts with the key a, by its end.
-fn item_from(pool: &[u8], a: KeyAt, end: RangeSetItem) -> MaybeItem
+// inner: the item that starts with the key a, by its end.
+pub fn item_from(pool: &[u8], a: KeyAt, end: RangeSetItem) -> MaybeItem
     ensures { λ r. ⌜ r ≡ itemBetween (now (pool .entry)) (Inclusive a) end ⌝ }
 {
     match end {
@@ -102,8 +102,8 @@ fn inclusive_item(pool: &[u8], a: KeyAt, b: KeyAt) -> MaybeItem
     MaybeItem::Item(QueryItem::RangeInclusive(a, b))
 }
 
-// The item that starts just past the key a, by its end. No bytes decide: it is that of every pool.
-fn item_after(a: KeyAt, end: RangeSetItem) -> MaybeItem
+// inner: the item that starts just past the key a, by its end. No bytes decide: it is that of every pool.
+pub fn item_after(a: KeyAt, end: RangeSetItem) -> MaybeItem
     ensures { λ r. ⌜ ((pool : List ℕ) → r ≡ itemBetween pool (ExclusiveStart a) end) ⌝ }
 {
     match end {
@@ -115,8 +115,8 @@ fn item_after(a: KeyAt, end: RangeSetItem) -> MaybeItem
     }
 }
 
-// The item that starts before every key, by its end, in every pool.
-fn item_to(end: RangeSetItem) -> MaybeItem
+// inner: the item that starts before every key, by its end, in every pool.
+pub fn item_to(end: RangeSetItem) -> MaybeItem
     ensures { λ r. ⌜ ((pool : List ℕ) → r ≡ itemBetween pool UnboundedStart end) ⌝ }
 {
     match end {

@@ -5,12 +5,13 @@ use Rattle.key_order.specs.Order.{compareNumbers, compareKeys}
 use Rattle.key_order.specs.Boundary.{compareBoundaries}
 use Rattle.query_item.specs.Items.{itemAt, itemsFrom, flatAll}
 use Rattle.item_check.specs.Checks.{firstBad, firstBreak, strictVerdict}
-use Rattle.intervals.specs.Lists.{meetsOf, sharedOf, cutsOf, withoutOf}
+use Rattle.intervals.specs.Lists.{meetsOf, sharedOf, cutsOf, withoutOf, keep}
 use Rattle.intervals.specs.Intervals.{inside, holds, piece}
 use Rattle.intervals.specs.Cover.{growOf, coverOf, cover, coverAll}
 use Rattle.key_order.specs.Words.{be}
 use Rattle.intersect.specs.Pair.{meetSets, leftOver, rightOver}
-use Rattle.intersect_many.specs.Lists.{convertAll, sharedItems, onlyItems}
+use Rattle.keyless.specs.Keyless.{keyless}
+use Rattle.intersect_many.specs.Lists.{convertAll, keyedItems, sharedItems, onlyItems}
 use Rattle.insert_order.specs.Order.{orderItems, sameItem, endsBelow, clashes}
 use Rattle.insert_order.specs.Refusals.{firstClash}
 use Rattle.insert_merge.specs.Merge.{fateOf, staying, merged, mergedWith}
@@ -21,7 +22,7 @@ use Rattle.position_given.specs.Positions.{countUp, positionsOf}
 use Rattle.position_query.specs.Covered.{firstFault}
 use Rattle.position_query.specs.Ranges.{ranges}
 use Rattle.position_report.specs.Reports.{reportOf}
-use Rattle.position_mismatch.specs.Reports.{isIn, keep, missing}
+use Rattle.position_mismatch.specs.Reports.{isIn, missing}
 use Rattle.lent_text.specs.Text.{digits}
 use Rattle.key_text.specs.Text.{hexDigit, hexText, keyText}
 use Rattle.krl_file.specs.File.{u16At, recordAt, recordsFrom}
@@ -30,5 +31,5 @@ use Rattle.krl_program.specs.Program.{programAnswer, programLines}
 use Rattle.rows.specs.Rows.{Result, Row, rows}
 
 pub rows-hold : map {B = Result} (λ (r : Row). r .0) rows ≡ map (λ (r : Row). r .1) rows
-unfolding compareNumbers compareKeys compareBoundaries itemAt itemsFrom flatAll firstBad firstBreak strictVerdict meetsOf sharedOf cutsOf withoutOf meetSets leftOver rightOver convertAll sharedItems onlyItems orderItems sameItem endsBelow clashes fateOf staying merged mergedWith placed inserted firstClash inside holds piece growOf coverOf cover coverAll pairsFrom flatPairs firstTouching canonicalVerdict firstFalling ascendingVerdict countUp positionsOf be firstFault ranges isIn keep missing reportOf digits hexDigit hexText keyText u16At recordAt recordsFrom itemLine itemLines listLines listingLines joined programAnswer programLines
+unfolding compareNumbers compareKeys compareBoundaries itemAt itemsFrom flatAll firstBad firstBreak strictVerdict meetsOf sharedOf cutsOf withoutOf meetSets leftOver rightOver keyless convertAll keyedItems sharedItems onlyItems orderItems sameItem endsBelow clashes fateOf staying merged mergedWith placed inserted firstClash inside holds piece growOf coverOf cover coverAll pairsFrom flatPairs firstTouching canonicalVerdict firstFalling ascendingVerdict countUp positionsOf be firstFault ranges isIn keep missing reportOf digits hexDigit hexText keyText u16At recordAt recordsFrom itemLine itemLines listLines listingLines joined programAnswer programLines
 rows-hold = refl

@@ -1,7 +1,8 @@
 -- The rows of document 01, "Thirteen rows to prove": what is given, by the definitions that the calls promise, and the result that the document
 -- states. Keys are single bytes, except the empty one of P6 and the position keys of P9. `from_query_items` promises canonical pairs of the
 -- covered positions; P9 and P10 give these pairs as the definition `coveredPairs` computes them, and `written-pairs` and `pairs-answered` of
--- position_query/proofs/Laws.antt say, of every query, that it writes those. Definitions only. It serves 01 rows.1. Assumes nothing.
+-- position_query/proofs/Laws.antt say, of every query, that it writes those. Definitions only. It serves 01 rows.1
+-- and, with P6's two items as lists, 02 §2.4. Assumes nothing.
 use Prim.Native.Nat.{ℕ, _*_}
 use mathlib.Core.Bool.{Bool, false}
 use mathlib.Core.List.{List, [], _∷_, _++_, map}
@@ -190,6 +191,8 @@ rows =
     ∷ (pairOf (two 2 4 4) full, parts (key 5 ∷ []) [] [] (upTo 5 5 ∷ []) (startsAt 7 5 ∷ []))
     -- 01 P6: full, RangeFrom -: RangeFrom -; ours left RangeTo -
     ∷ (pairOf full fromEmpty, parts ((4, 0, [], []) ∷ []) ((5, 0, [], []) ∷ []) [] [] [])
+    -- 02 §2.4: P6's two items as lists of one: shared RangeFrom -, and nothing is left
+    ∷ (listsOf (full ∷ []) (fromEmpty ∷ []), lists ((4, 0, [], []) ∷ []) [] [])
     -- 01 P7: {[01,03],[07,09]}, {[02,08]}: shared [02,03],[07,08]; ours [01,02),(08,09]; theirs (03,07)
     ∷ (listsOf (two 2 0 2 ∷ two 2 6 8 ∷ []) (two 2 1 7 ∷ []), lists (between 2 2 3 ∷ between 2 7 8 ∷ []) (between 1 1 2 ∷ between 9 8 9 ∷ []) (between 8 3 7 ∷ []))
     -- 01 P8: {}, {Key 04}: theirs Key 04

@@ -5,10 +5,11 @@ use mathlib.Core.Path.{_∙_}
 use native.Mathlib.Omega.{arith}
 use borrow.Author.Needs.{needs}
 use Rattle.item_lists.specs.Written.{asItems}
-use Rattle.intersect_many.specs.Lists.{convertAll}
+use Rattle.intersect_many.specs.Lists.{keyedItems}
 use Rattle.intersect_many.specs.Sweep.{setsLeft}
-use Rattle.intersect_many.proofs.Written.{one, Left, left-start, left-put, left-done, put-then, put-none}
-use Rattle.intersect_many.proofs.Rests.{sets-end, rest-end, convert-more, convert-rest}
+use Rattle.intersect_many.proofs.Written.{one, Left, left-start, left-put, left-done, put-then}
+use Rattle.intersect_many.proofs.Pieces.{keyed-none, put-none-keyed}
+use Rattle.intersect_many.proofs.Rests.{sets-end, rest-end, keyed-more, keyed-rest}
 use Rattle.intersect_many.proofs.put_rest.Statement.{statement}
 use Rattle.intersect_many.proofs.put_rest.Tie as tie
 
@@ -16,21 +17,20 @@ abbrev Inv-loop : tie.InvT-loop
 Inv-loop pool words i out₀ n count m₀ k₀ out m k =
     (k ≤ count)
     × (m + count ≤ 4096 + k)
-    × (Left (convertAll pool (setsLeft words (i + 1))) out₀ m₀ out m (convertAll pool (setsLeft words k)))
+    × (Left (keyedItems pool (setsLeft words (i + 1))) out₀ m₀ out m (keyedItems pool (setsLeft words k)))
 
 abbrev μ-loop : tie.MeasureT-loop
 μ-loop pool words i out₀ n count m₀ k₀ out m k = count - k
 
 returns : tie.Need-returns Inv-loop μ-loop
-unfolding convertAll
 returns c =
     let args = c .before .before .before .before .args in
-    rw (rest-end (args .words .now) (args .i) (args .x) (c .if1 .taken)) (put-none (args .out .now) (args .n))
+    rw (rest-end (args .words .now) (args .i) (args .x) (c .if1 .taken)) (put-none-keyed (args .pool .now) (args .out .now) (args .n))
 
 loop-holds : tie.Need-loop-holds Inv-loop μ-loop
 loop-holds c = (
   search needs,
-  omega (arith, c .before .before .put .ensures .count, one (c .before .before .before .to-query-item .result)),
+  omega (arith, c .before .before .put .ensures .count, one (c .before .before .before .piece-item .result)),
   left-start _ _ _,
 )
 
@@ -38,25 +38,24 @@ loop-again : tie.Need-loop-again Inv-loop μ-loop
 loop-again c =
     let turn = c .before .before .before .before .before in
     let at = turn .before .before in
-    let item = c .before .before .before .to-query-item2 in
+    let item = c .before .before .before .piece-item2 in
     let p = c .before .before .put2 .ensures in (
       search needs,
       omega (arith, at .loop .inv .1, p .count, one (item .result)),
       left-put (at .loop .inv .2) (asItems (item .result)) _
-          (convert-more (at .before .before .before .before .before .before .before .before .before .before .args .pool .now) (at .before .before .before .before .before .before .before .before .before .before .args .words .now) (at .loop .k) (turn .before .loop-test .taken)
+          (keyed-more (at .before .before .before .before .before .before .before .before .before .before .args .pool .now) (at .before .before .before .before .before .before .before .before .before .before .args .words .now) (at .loop .k) (turn .before .loop-test .taken)
           ∙ rw (← c .before .before .before .before .set-at .ensures, ← item .ensures))
           p,
     )
 
 returns-2 : tie.Need-returns-2 Inv-loop μ-loop
-unfolding convertAll
 returns-2 c =
     let at = c .before in
     let start = at .before .before .before .before .before .before .before .before .before .before in
-    let done = left-done (at .loop .inv .2) (rw (sets-end (start .args .words .now) (at .loop .k) (c .loop-test .left))) in
-    let first = at .before .before .before .before .to-query-item in
-    rw (convert-rest (start .args .pool .now) (start .args .words .now) (start .args .i) (start .args .x) (at .before .before .before .before .before .before .if1 .left), ← first .ensures)
-    (put-then (start .args .out .now) (start .args .n) (asItems (first .result)) (convertAll (start .args .pool .now) (setsLeft (start .args .words .now) (start .args .i + 1))) (at .before .before .before .put .ensures) done)
+    let done = left-done (at .loop .inv .2) (rw (sets-end (start .args .words .now) (at .loop .k) (c .loop-test .left)) (keyed-none (start .args .pool .now))) in
+    let first = at .before .before .before .before .piece-item in
+    rw (keyed-rest (start .args .pool .now) (start .args .words .now) (start .args .i) (start .args .x) (at .before .before .before .before .before .before .if1 .left), ← first .ensures)
+    (put-then (start .args .out .now) (start .args .n) (asItems (first .result)) (keyedItems (start .args .pool .now) (setsLeft (start .args .words .now) (start .args .i + 1))) (at .before .before .before .put .ensures) done)
 
 pub put-rest-spec : {M : Type 1} → statement M
 put-rest-spec =

@@ -27,7 +27,7 @@ use Rattle.intersect_many.proofs.right_set.Reads as right-set-reads
 use Rattle.intersect_many.proofs.with_ours.Reads as with-ours-reads
 use Rattle.intersect_many.proofs.with_theirs.Reads as with-theirs-reads
 use Rattle.item_check.proofs.set_at.Reads as set-at-reads
-use Rattle.query_item.proofs.RangeSet.to_query_item.Reads as to-query-item-reads
+use Rattle.keyless.proofs.piece_item.Reads as piece-item-reads
 
 inside : (i j m n : ℕ) → ltb i m && ltb j n ≡ true → (i < m) × (j < n)
 inside i j m n e = go (ltb i m) (ltb j n) refl refl e
@@ -88,8 +88,8 @@ how-they-stand-requires c κs = search needs
 enum-told : tie.Need-enum-told Inv-loop μ-loop
 enum-told c = search needs
 
-to-query-item-requires : tie.Need-to-query-item-requires Inv-loop μ-loop
-to-query-item-requires c κs = search needs
+piece-item-requires : tie.Need-piece-item-requires Inv-loop μ-loop
+piece-item-requires c κs = search needs
 
 put-requires : tie.Need-put-requires Inv-loop μ-loop
 put-requires c κs = omega (arith, c .before .before .before .before .before .before .before .before .loop .inv, test (c .before .before .before .before .before .before .before))
@@ -117,7 +117,7 @@ loop-again c =
     let stand = c .before .before .before .before .before .before .before .before .before .how-they-stand in
     let with = c .before .with-ours .ensures in
     let put = c .before .before .before .before .put .ensures in
-    let item = c .before .before .before .before .before .to-query-item .ensures in
+    let item = c .before .before .before .before .before .piece-item .ensures in
     swept-before _ _ _ _ _ _ _ _ _ _ _ _ _ _ (at .loop .inv) (both .0) (both .1) _ _ (a .ensures) (b .ensures) _ _ _
     (stands-before (start .args .pool .now) (a .result) (b .result) (sym (stand .ensures) ∙ c .before .before .before .before .before .before .before .enum-told .given .1))
     (with .0) (with .2) (rw (with .1, ← item) put) (c .set-at5 .ensures)
@@ -125,8 +125,8 @@ loop-again c =
 enum-told-2 : tie.Need-enum-told-2 Inv-loop μ-loop
 enum-told-2 c = search needs
 
-to-query-item-requires-2 : tie.Need-to-query-item-requires-2 Inv-loop μ-loop
-to-query-item-requires-2 c κs = search needs
+piece-item-requires-2 : tie.Need-piece-item-requires-2 Inv-loop μ-loop
+piece-item-requires-2 c κs = search needs
 
 put-requires-2 : tie.Need-put-requires-2 Inv-loop μ-loop
 put-requires-2 c κs = omega (arith, c .before .before .before .before .before .before .before .before .loop .inv, test (c .before .before .before .before .before .before .before))
@@ -154,7 +154,7 @@ loop-again-2 c =
     let stand = c .before .before .before .before .before .before .before .before .before .how-they-stand in
     let with = c .before .with-theirs .ensures in
     let put = c .before .before .before .before .put2 .ensures in
-    let item = c .before .before .before .before .before .to-query-item2 .ensures in
+    let item = c .before .before .before .before .before .piece-item2 .ensures in
     swept-after _ _ _ _ _ _ _ _ _ _ _ _ _ _ (at .loop .inv) (both .0) (both .1) _ _ (a .ensures) (b .ensures) _ _ _
     (stands-after (start .args .pool .now) (a .result) (b .result) (sym (stand .ensures) ∙ c .before .before .before .before .before .before .before .enum-told2 .given .1))
     (with .0) (with .1) (rw (with .2, ← item) put) (c .set-at6 .ensures)
@@ -315,7 +315,7 @@ sweep-spec =
     set-at-requires-4
     how-they-stand-requires
     enum-told
-    to-query-item-requires
+    piece-item-requires
     put-requires
     with-ours-requires
     add-i
@@ -323,7 +323,7 @@ sweep-spec =
     loop-less
     loop-again
     enum-told-2
-    to-query-item-requires-2
+    piece-item-requires-2
     put-requires-2
     with-theirs-requires
     add-j

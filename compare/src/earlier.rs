@@ -1,0 +1,66 @@
+//! The call on two lists of two libraries: ours, and one that was kept from before a change. Both are there only where `make bench EARLIER=..`
+//! has named that one; then they are linked under these names (tools/earlier).
+
+/// A call that takes what `fernsponge::intersect_many` takes.
+pub type Call = fn(&[u8], &[u32], &[u32], [&mut [u32]; 3], &mut [u64; 3]) -> u64;
+
+/// Ours, and the earlier one.
+#[cfg(not(earlier))]
+pub const CALLS: Option<[Call; 2]> = None;
+
+#[cfg(earlier)]
+pub const CALLS: Option<[Call; 2]> = Some([ours, earlier]);
+
+#[cfg(earlier)]
+macro_rules! call {
+    ($name:ident, $symbol:ident) => {
+        fn $name(
+            pool: &[u8],
+            ours: &[u32],
+            theirs: &[u32],
+            [both, mine, yours]: [&mut [u32]; 3],
+            counts: &mut [u64; 3],
+        ) -> u64 {
+            extern "C" {
+                fn $symbol(
+                    pool: *const u8,
+                    pool_length: usize,
+                    ours: *const u32,
+                    ours_length: usize,
+                    theirs: *const u32,
+                    theirs_length: usize,
+                    both: *mut u32,
+                    both_length: usize,
+                    mine: *mut u32,
+                    mine_length: usize,
+                    yours: *mut u32,
+                    yours_length: usize,
+                    counts: &mut [u64; 3],
+                ) -> u64;
+            }
+            // SAFETY: the header's function, with the addresses and lengths of slices that do not overlap
+            unsafe {
+                $symbol(
+                    pool.as_ptr(),
+                    pool.len(),
+                    ours.as_ptr(),
+                    ours.len(),
+                    theirs.as_ptr(),
+                    theirs.len(),
+                    both.as_mut_ptr(),
+                    both.len(),
+                    mine.as_mut_ptr(),
+                    mine.len(),
+                    yours.as_mut_ptr(),
+                    yours.len(),
+                    counts,
+                )
+            }
+        }
+    };
+}
+
+#[cfg(earlier)]
+call!(ours, ours_intersect_many);
+#[cfg(earlier)]
+call!(earlier, earlier_intersect_many);
