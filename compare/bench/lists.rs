@@ -300,6 +300,13 @@ fn hold_in(pool: &[u8], ours: &[u32], theirs: &[u32], lent: &Lent) -> u64 {
     let (mut one, mut other) = (lent.clone(), lent.clone());
     let (words, counts) = one.lend();
     let returned = fernsponge::intersect_many(pool, ours, theirs, words, counts);
+    // the copy of ours that an earlier library is timed beside is no other library
+    if let Some([copied, _]) = CALLS {
+        let mut copy = lent.clone();
+        let (words, counts) = copy.lend();
+        let again = copied(pool, ours, theirs, words, counts);
+        assert_eq!((returned, &one), (again, &copy), "the copy of ours");
+    }
     let (words, counts) = other.lend();
     let swept = sweep::checking(pool, ours, theirs, words, counts);
     assert_eq!(

@@ -1,7 +1,7 @@
 -- Worked lists with ranges that hold no key, by computation. Assumes nothing.
 use Prim.Native.Nat.{ℕ}
 use mathlib.Core.Path.{_≡_, refl}
-use mathlib.Core.List.{List, [], _∷_}
+use mathlib.Core.List.{List, [], _∷_, _++_}
 use Rattle.key_order.specs.Order.{compareNumbers, compareKeys}
 use Rattle.key_order.specs.Boundary.{compareBoundaries}
 use Rattle.intervals.specs.Lists.{meetsOf, sharedOf, cutsOf, withoutOf, keep}
@@ -13,6 +13,7 @@ use Rattle.keyless.specs.Keyless.{keyless}
 use Rattle.item_check.specs.Checks.{answered, firstBad, firstBreak, strictVerdict}
 use Rattle.intersect.specs.Pair.{meetSets, leftOver, rightOver}
 use Rattle.intersect_many.specs.Lists.{convertAll, keyedItems, sharedItems, onlyItems, manyAnswer}
+use Rattle.intersect_many.specs.Demand.{Accepted}
 
 -- the keys 01, 05, 05 00, 05 01 and 09
 abbrev pool : List ℕ
@@ -70,3 +71,8 @@ room-of-what-is-left : manyAnswer pool (item 3 absent absent) (item 4 absent abs
     ≡ answered (record { «in_both» = 1; ours = 0; theirs = 0 })
 unfolding compareNumbers compareKeys compareBoundaries itemAt itemsFrom firstBad firstBreak strictVerdict meetsOf sharedOf cutsOf withoutOf keep meetSets leftOver rightOver keyless convertAll keyedItems sharedItems onlyItems
 room-of-what-is-left = refl
+
+-- 02 §2.3: a list of RangeTo - and (05, 05 00) may be given
+still-given : Accepted pool (item 5 absent absent ++ item 8 k05 k0500)
+unfolding compareNumbers compareKeys compareBoundaries itemAt itemsFrom firstBad firstBreak strictVerdict
+still-given = refl

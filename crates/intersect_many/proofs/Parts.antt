@@ -1,10 +1,9 @@
 -- Ranges that hold no key, left out: every part of one holds none, so that they may be left out before two lists are shared or removed; the
 -- keys that a list holds stay, and a strict list stays strict. Assumes nothing.
-use Prim.Native.Nat.{ℕ, _≤_, min, max}
+use Prim.Native.Nat.{ℕ, _≤_}
 use mathlib.Core.Path.{_≡_, refl, sym, ap, _∙_}
 use mathlib.Core.Bool.{Bool, true, false, cond, not, _||_, Bool·not-not}
 use mathlib.Core.List.{List, [], _∷_, map}
-use native.Mathlib.Decide.{decLt}
 use native.Mathlib.Omega.{arith}
 use Rattle.key_order.proofs.Line.{size}
 use Rattle.key_order.proofs.Ranks.{keyRank}
@@ -12,36 +11,13 @@ use Rattle.query_item.specs.declared.RangeSet.{RangeSet}
 use Rattle.keyless.specs.Keyless.{keyless, keyed}
 use Rattle.keyless.proofs.Laws.{keyless-inside, part-of-keyless}
 use Rattle.intervals.specs.Lists.{sharedOf, withoutOf, keep}
-use Rattle.intervals.specs.Intervals.{Interval, Above, inside, holds, piece, meet, cut}
-use Rattle.intervals.proofs.Laws.{All, all-append, piece-some, piece-none, Dropped, all-keep, keep-shared, keep-shared-second, keep-without}
+use Rattle.intervals.specs.Intervals.{Above, inside, holds}
+use Rattle.intervals.proofs.Laws.{All, Dropped, all-keep, keep-shared, keep-shared-second, keep-without}
+use Rattle.intervals.proofs.Ordered.{above-le}
+use Rattle.intervals.proofs.Pieces.{Within, meet-within, meet-within-second, cut-within}
 use Rattle.intersect.specs.Pair.{meetSets}
 use Rattle.intersect_many.specs.Lists.{cutSets}
 use Rattle.intersect_many.proofs.Carried.{iv, Fine, meet-carried, cut-carried}
-
--- ---- what two intervals share, and what one keeps, lies within
-
-abbrev Within : Interval → Interval → Type 0
-Within i j = (i .0 ≤ j .0) × (j .1 ≤ i .1)
-
-piece-within : (i : Interval) (s e : ℕ) → i .0 ≤ s → e ≤ i .1 → All (Within i) (piece s e)
-piece-within i s e l m = elim (decLt s e) [
-  | yes h ↦ rw (piece-some s e h) ((l, m), tt)
-  | no h ↦ rw (piece-none s e (omega arith)) tt
-]
-
-meet-within : (i j : Interval) → All (Within i) (meet i j)
-unfolding meet
-meet-within i j = piece-within i (max (i .0) (j .0)) (min (i .1) (j .1)) (omega arith) (omega arith)
-
-meet-within-second : (i j : Interval) → All (Within j) (meet i j)
-unfolding meet
-meet-within-second i j = piece-within j (max (i .0) (j .0)) (min (i .1) (j .1)) (omega arith) (omega arith)
-
-cut-within : (i j : Interval) → All (Within i) (cut i j)
-unfolding cut
-cut-within i j =
-    all-append (Within i) (piece (i .0) (min (i .1) (j .0))) (piece (max (i .0) (j .1)) (i .1))
-    (piece-within i (i .0) (min (i .1) (j .0)) (omega arith) (omega arith)) (piece-within i (max (i .0) (j .1)) (i .1) (omega arith) (omega arith))
 
 module _ (pool : List ℕ) (n : ℕ) (fits : size pool ≤ n) where
   abbrev test : RangeSet → Bool
@@ -102,10 +78,6 @@ module _ (pool : List ℕ) (n : ℕ) (fits : size pool ≤ n) where
       go true d e = rw (keyless-inside pool n fits s (h .0 .good) d k l) e
       go false d e = rw e
 
-  above-lower : (lo hi : ℕ) (A : List Interval) → lo ≤ hi → Above hi A → Above lo A
-  above-lower lo hi [] l h = tt
-  above-lower lo hi (a ∷ A) l h = (omega (arith, h .0), h .1, h .2)
-
   -- strict
   pub above-keyed : (lo : ℕ) (S : List RangeSet) → Above lo (map (iv pool n fits) S) → Above lo (map (iv pool n fits) (keyed pool S))
   unfolding keep
@@ -113,5 +85,5 @@ module _ (pool : List ℕ) (n : ℕ) (fits : size pool ≤ n) where
   above-keyed lo (s ∷ S) h = go (keyless pool s) (above-keyed (iv pool n fits s .1) S (h .2))
     where
       go : (t : Bool) → Above (iv pool n fits s .1) (map (iv pool n fits) (keyed pool S)) → Above lo (map (iv pool n fits) (cond (not t) (s ∷ keyed pool S) (keyed pool S)))
-      go true k = above-lower lo (iv pool n fits s .1) (map (iv pool n fits) (keyed pool S)) (omega (arith, h .0, h .1)) k
+      go true k = above-le lo (iv pool n fits s .1) (map (iv pool n fits) (keyed pool S)) (omega (arith, h .0, h .1)) k
       go false k = (h .0, h .1, k)

@@ -9,7 +9,7 @@ use Rattle.intervals.proofs.Pieces.{meets, cuts, piece-some, piece-none
 
 -- ---- a list above a lower bound, and one list after another
 
-above-le : (lo lo′ : ℕ) (A : List Interval) → lo ≤ lo′ → Above lo′ A → Above lo A
+pub above-le : (lo lo′ : ℕ) (A : List Interval) → lo ≤ lo′ → Above lo′ A → Above lo A
 above-le lo lo′ [] h hA = tt
 above-le lo lo′ (a ∷ A) h hA = (omega arith, hA .1, hA .2)
 

@@ -7,6 +7,7 @@ use native.Mathlib.Omega.{arith}
 use borrow.Author.Tests.{lt-ltb, le-ltb}
 use Rattle.intervals.specs.Lists.{meetsOf, sharedOf, cutsOf}
 use Rattle.intervals.specs.Intervals.{Interval, piece, meet, shared, cut}
+use Rattle.intervals.proofs.Lists.{All, all-append}
 
 -- `meetsOf` and `cutsOf` of intervals
 
@@ -58,3 +59,28 @@ module _ (s e : ℕ) where
         let parts : cut (s, e) b ≡ piece s (min e (b .0)) ++ piece (max s (b .1)) e = refl in
         rw (p, parts, piece-none s (min e (b .0)) (omega arith), piece-none (max s (b .1)) e (omega arith))
   ]
+
+-- ---- what two intervals share lies within each, and what one keeps within it
+
+abbrev pub Within : Interval → Interval → Type 0
+Within i j = (i .0 ≤ j .0) × (j .1 ≤ i .1)
+
+piece-within : (i : Interval) (s e : ℕ) → i .0 ≤ s → e ≤ i .1 → All (Within i) (piece s e)
+piece-within i s e l m = elim (decLt s e) [
+  | yes h ↦ rw (piece-some s e h) ((l, m), tt)
+  | no h ↦ rw (piece-none s e (omega arith)) tt
+]
+
+pub meet-within : (i j : Interval) → All (Within i) (meet i j)
+unfolding meet
+meet-within i j = piece-within i (max (i .0) (j .0)) (min (i .1) (j .1)) (omega arith) (omega arith)
+
+pub meet-within-second : (i j : Interval) → All (Within j) (meet i j)
+unfolding meet
+meet-within-second i j = piece-within j (max (i .0) (j .0)) (min (i .1) (j .1)) (omega arith) (omega arith)
+
+pub cut-within : (i j : Interval) → All (Within i) (cut i j)
+unfolding cut
+cut-within i j =
+    all-append (Within i) (piece (i .0) (min (i .1) (j .0))) (piece (max (i .0) (j .1)) (i .1))
+    (piece-within i (i .0) (min (i .1) (j .0)) (omega arith) (omega arith)) (piece-within i (max (i .0) (j .1)) (i .1) (omega arith) (omega arith))

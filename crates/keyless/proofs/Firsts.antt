@@ -3,12 +3,11 @@ use Prim.Native.Nat.{ℕ}
 use mathlib.Core.Path.{_≡_, refl, sym, _∙_}
 use mathlib.Core.Bool.{true, not}
 use mathlib.Core.List.{List, [], _∷_}
-use native.Mathlib.Omega.{arith}
 use Rattle.key_order.specs.declared.Ordering.{Ordering}
 use Rattle.key_order.specs.declared.Ordering.the-variants.{Less, Equal, Greater}
 use Rattle.key_order.specs.Order.{compareNumbers, compareKeys, thenBy, isLess, isAtMost, isEqual}
 use Rattle.key_order.specs.Boundary.{exclusiveEnd, inclusive, exclusiveStart, Boundary, unboundedStart, unboundedEnd, atKey, compareBoundaries}
-use Rattle.key_order.proofs.Numbers.{Says, numbers-say}
+use Rattle.key_order.proofs.Laws.{empty-at-most, next-at-most}
 use Rattle.keyless.specs.Keyless.{nextKey, keylessBetween, firstKey}
 
 -- boundaries that a range can start with, and end with
@@ -26,31 +25,6 @@ EndsAt unboundedEnd = Unit {0}
 EndsAt (atKey b exclusiveEnd) = Unit {0}
 EndsAt (atKey b inclusive) = Unit {0}
 EndsAt (atKey b exclusiveStart) = ⊥
-
--- ---- the empty key is the first of all, and a key with a zero byte appended the first past it
-
-empty-at-most : (k : List ℕ) → isAtMost (compareKeys [] k) ≡ true
-unfolding compareKeys
-empty-at-most [] = refl
-empty-at-most (y ∷ l) = refl
-
-next-at-most : (a k : List ℕ) → isLess (compareKeys a k) ≡ isAtMost (compareKeys (nextKey a) k)
-unfolding compareKeys
-next-at-most [] [] = refl
-next-at-most [] (y ∷ l) = go (compareNumbers 0 y) (numbers-say 0 y)
-  where
-    go : (o : Ordering) → Says o 0 y → true ≡ isAtMost (thenBy o (compareKeys [] l))
-    go Less s = refl
-    go Equal s = sym (empty-at-most l)
-    go Greater s = absurd (omega arith)
-next-at-most (x ∷ a) [] = refl
-next-at-most (x ∷ a) (y ∷ l) = go (compareNumbers x y) (next-at-most a l)
-  where
-    go : (o : Ordering) → isLess (compareKeys a l) ≡ isAtMost (compareKeys (nextKey a) l)
-        → isLess (thenBy o (compareKeys a l)) ≡ isAtMost (thenBy o (compareKeys (nextKey a) l))
-    go Less h = refl
-    go Equal h = h
-    go Greater h = refl
 
 -- ---- at a tie of keys the kinds decide
 
