@@ -9,8 +9,8 @@
  * FERNSPONGE_SIDE and FERNSPONGE_INDEX take a refusal apart:
  *
  *    1  malformed: an unknown code, wrapper or kind, words of an absent key that are not 0, a list whose words are no multiple of 6 or that
- *       has more than 2,048 items, a pool of more than 65,536 bytes, a count beyond its buffer, an odd number of interval words, a report
- *       with more than 16 examples
+ *       has more than 2,048 items, a pool of more than 65,536 bytes, a count beyond its buffer, an odd number of interval or window words, a
+ *       report with more than 16 examples
  *    2  a key longer than 255 bytes, or reaching past the pool
  *    3  an item that is not upright: its start stands above its end
  *    4  an item out of order: in the algebra each item ends below the start of the next
@@ -19,9 +19,10 @@
  *    7  a position key that is not 8 bytes
  *    8  proved positions that do not ascend strictly, spans that are turned round or start below the end of the one before
  *    9  intervals that are not canonical: nonempty, ascending, each end below the next start
+ *   16  windows of at most 0 rows
  *
- * Side 0 is ours, 1 theirs; position items and intervals are side 0, proved positions, spans and an item to insert side 1. The index is that
- * of the item, pair or position; the pool, the shape of a list and want of room have index 0.
+ * Side 0 is ours, 1 theirs; position items and intervals are side 0, proved positions, spans, windows of a plan and an item to insert side 1.
+ * The index is that of the item, pair or position; the pool, the shape of a list, want of room and refusal 16 have index 0.
  *
  * Keys stand in one pool of bytes, and an item names its keys by offset and length. An item is six words: code, wrapper, start offset, start
  * length, end offset, end length; the words of a key that its kind has not are 0. An item that may be missing is seven words: 1 and its six, or
@@ -178,6 +179,21 @@ uint64_t fernsponge_missing_from_spans(const uint64_t *intervals, size_t interva
 /* Which proved positions are not covered. */
 uint64_t fernsponge_extra_in(const uint64_t *intervals, size_t intervals_length, const uint64_t *proved, size_t proved_length,
                              uint64_t *total, uint64_t *count, uint64_t examples[FERNSPONGE_EXAMPLES]);
+
+/* A row is missing where it is covered and not proved. A plan is windows of rows to fetch again: pairs of words, start and end, half-open; its
+ * length is the number of words. most is the most rows of a window. */
+
+/* The plan of our planner, at the front of out; *windows is how many windows it has, and the words past them stay. It opens a window at the
+ * first missing row that is not yet planned, and ends it behind the last missing row within most rows. Room for (covered rows / most +
+ * intervals) windows, two words each, is always enough; an odd last word of out is no fault, and stays. */
+uint64_t fernsponge_plan_refetch(const uint64_t *intervals, size_t intervals_length, const uint64_t *proved, size_t proved_length,
+                                 uint64_t most, uint64_t *out, size_t out_length, uint64_t *windows);
+
+/* 1 where a plan, of any planner, is accepted: its windows ascend and share no row, each is nonempty and at most `most` rows wide, each begins
+ * and ends on a missing row, and together they contain every missing row. A window may start at the end of the one before it. Any other plan
+ * is answered 0; of its words only an odd number is refused, before what is wrong with the proved positions. */
+uint64_t fernsponge_check_plan(const uint64_t *intervals, size_t intervals_length, const uint64_t *proved, size_t proved_length, uint64_t most,
+                               const uint64_t *windows, size_t windows_length, uint32_t *yes);
 
 /* The text of a report, at the front of out; *written is its length, 394 bytes at most, with no 0 at its end. */
 uint64_t fernsponge_describe(uint64_t total, uint64_t count, const uint64_t examples[FERNSPONGE_EXAMPLES], uint8_t *out, size_t out_length,

@@ -71,5 +71,6 @@ fn measure(sizes: &[usize]) -> Measured {
         insertion: others::insertion(),
         building: others::building(),
         mismatches: others::mismatches(),
+        planning: others::planning(),
     }
 }

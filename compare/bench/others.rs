@@ -1,10 +1,11 @@
-//! Key comparison, insertion and positions.
+//! Key comparison, insertion, positions, and plans for missing ones.
 
 use crate::timing::{calls, least, prepared};
 use compare::{
     fernsponge::{self, Report},
     inputs::alike_keys,
     items::read,
+    plans::Log,
     random::Random,
     table::grouped,
     timed::{Covered, Off, Positions},
@@ -150,17 +151,26 @@ pub fn building() -> Vec<Line> {
     lines
 }
 
+/// Of the proved positions all are covered, or every second one.
+const SHAPES: [(&str, u64); 2] = [("all proved", 1), ("every second one missing", 2)];
+
+/// 2,000 intervals of 50, each 100 after the one before, and 100,000 proved positions, which go on with the same step up to the next.
+fn intervals_and_proved(step: u64) -> [Vec<u64>; 2] {
+    const INTERVALS: u64 = 2_000;
+    let starts = || (0..INTERVALS).map(|at| 100 * at);
+    let intervals: Vec<u64> = starts().flat_map(|start| [start, start + 50]).collect();
+    let proved: Vec<u64> = starts()
+        .flat_map(|start| (0..50).map(move |at| start + step * at))
+        .collect();
+    assert_eq!((intervals.len(), proved.len()), (2 * 2_000, 100_000));
+    [intervals, proved]
+}
+
 /// 2,000 intervals, and 100,000 positions that are all theirs, or half of which stand between them.
 pub fn mismatches() -> Vec<Line> {
-    const INTERVALS: u64 = 2_000;
     let mut lines = vec![];
-    for (shape, step) in [("all proved", 1), ("every second one missing", 2)] {
-        // intervals of 50, each 100 after the one before; positions go on with the same step up to the next
-        let starts = || (0..INTERVALS).map(|at| 100 * at);
-        let intervals: Vec<u64> = starts().flat_map(|start| [start, start + 50]).collect();
-        let proved: Vec<u64> = starts()
-            .flat_map(|start| (0..50).map(move |at| start + step * at))
-            .collect();
+    for (shape, step) in SHAPES {
+        let [intervals, proved] = intervals_and_proved(step);
         let spans = spans_of(&proved);
         let rust = Positions::new(&intervals, &proved, &spans);
         let (intervals, proved, spans, rust) = (&intervals[..], &proved[..], &spans[..], &rust);
@@ -176,7 +186,6 @@ pub fn mismatches() -> Vec<Line> {
             calls(move || black_box(rust).extra_in()),
         ]);
         let counted = format!("2,000 intervals, 100,000 positions, {shape}");
-        assert_eq!((intervals.len(), proved.len()), (2 * 2_000, 100_000));
         let mut line = |name: &str, ours, rust| {
             lines.push(Line {
                 what: format!("{name}: {counted}"),
@@ -192,6 +201,68 @@ pub fn mismatches() -> Vec<Line> {
         line("extra_in", Some(extra), rust_extra);
     }
     lines
+}
+
+/// The least times of our calls on one log, in nanoseconds.
+pub struct Planned {
+    pub what: String,
+    /// whether the room is that which is always enough
+    pub always: bool,
+    pub plan: f64,
+    pub check: f64,
+    pub missing: f64,
+}
+
+/// The same intervals and positions, and windows of at most 1 and 500 rows: in the room that is always enough, and where rows are missing in
+/// room that is exactly enough.
+pub fn planning() -> Vec<Planned> {
+    let logs = SHAPES.map(|(shape, step)| {
+        let [intervals, proved] = intervals_and_proved(step);
+        (shape, Log::new(intervals, proved))
+    });
+    let mut rows = vec![];
+    for (shape, log) in &logs {
+        for most in [1, 500] {
+            let enough = log.enough(most).expect("the log is accepted");
+            rows.push(planned(log, shape, most, enough, true));
+        }
+    }
+    let (shape, log) = &logs[1];
+    for most in [1, 500] {
+        let exact = log.windows(most, usize::MAX).len();
+        rows.push(planned(log, shape, most, exact, false));
+    }
+    rows
+}
+
+/// A plan in room for so many windows, its check, and the report of what is missing.
+fn planned(log: &Log, shape: &str, most: u64, room: usize, always: bool) -> Planned {
+    let (intervals, proved) = (&log.intervals[..], &log.proved[..]);
+    let (mut out, mut windows, mut yes) = (vec![0; 2 * room], 0, 0);
+    let answer = log.plan_refetch(most, &out).expect("there is room");
+    fernsponge::plan_refetch(intervals, proved, most, &mut out, &mut windows);
+    assert_eq!((&out, windows), (&answer.0, answer.1));
+    let plan = &answer.0[..2 * windows as usize];
+    fernsponge::check_plan(intervals, proved, most, plan, &mut yes);
+    assert_eq!(yes, 1);
+    let told = grouped(windows);
+    let mut report = empty();
+    let [plan, check, missing] = least([
+        calls(move || {
+            let intervals = black_box(intervals);
+            fernsponge::plan_refetch(intervals, proved, most, &mut out, &mut windows)
+        }),
+        calls(move || fernsponge::check_plan(black_box(intervals), proved, most, plan, &mut yes)),
+        calls(move || fernsponge::missing_from(black_box(intervals), proved, &mut report)),
+    ]);
+    let fits = if always { "" } else { ", room exactly enough" };
+    Planned {
+        what: format!("{shape}, W {most}: {told} windows{fits}"),
+        always,
+        plan,
+        check,
+        missing,
+    }
 }
 
 /// The same by spans.

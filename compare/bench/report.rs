@@ -2,7 +2,7 @@
 
 use crate::{
     lists::{Earlier, Timed},
-    others::Line,
+    others::{Line, Planned},
 };
 use compare::table::grouped;
 
@@ -14,6 +14,7 @@ pub struct Measured {
     pub insertion: Vec<Line>,
     pub building: Vec<Line>,
     pub mismatches: Vec<Line>,
+    pub planning: Vec<Planned>,
 }
 
 impl Measured {
@@ -28,6 +29,11 @@ impl Measured {
         for (one, two) in self.earlier.iter_mut().zip(other.earlier) {
             one.ours = one.ours.min(two.ours);
             one.earlier = one.earlier.min(two.earlier);
+        }
+        for (one, two) in self.planning.iter_mut().zip(other.planning) {
+            one.plan = one.plan.min(two.plan);
+            one.check = one.check.min(two.check);
+            one.missing = one.missing.min(two.missing);
         }
         for (lines, others) in [
             (&mut self.key_comparison, other.key_comparison),
@@ -96,6 +102,17 @@ const REFERRED: &str = "
 |---|--:|--:|--:|--:|--:|
 ";
 
+const PLANNING: &str = "
+## Planning the refetch of missing rows
+
+The Rust has none of this, so that it stands beside our own missing_from. 2,000 intervals and 100,000 positions, as above; W is the most rows of
+a window. The room is that which is always enough, covered rows / W + intervals. Where it is exactly enough the windows are counted first: those
+rows are not held to the target.
+
+| | plan_refetch | check_plan | missing_from | plan_refetch / missing_from |
+|---|--:|--:|--:|--:|
+";
+
 pub fn text(measured: &Measured) -> String {
     let mut text = HEAD.to_string();
     let kind = std::env::consts::ARCH;
@@ -148,6 +165,17 @@ pub fn text(measured: &Measured) -> String {
         for line in lines {
             text += &line.row(referred);
         }
+    }
+    text += PLANNING;
+    for row in &measured.planning {
+        text += &format!(
+            "| {} | {} | {} | {} | {} |\n",
+            row.what,
+            time(row.plan),
+            time(row.check),
+            time(row.missing),
+            two(row.plan / row.missing),
+        );
     }
     text
 }
@@ -234,6 +262,9 @@ fn targets(measured: &Measured) -> Vec<Target> {
     let turned = |(ratio, what): (f64, String)| (1.0 / ratio, what);
     let grown = (0..measured.lists.len())
         .filter_map(|at| Some((growth(&measured.lists, at)?, of(&measured.lists[at]))));
+    let planned = (measured.planning.iter())
+        .filter(|row| row.always)
+        .map(|row| (row.plan / row.missing, row.what.clone()));
     let mut targets = vec![
         least(
             "the three lists at 2,048 at least 1,000 times as fast as the Rust",
@@ -264,6 +295,7 @@ fn targets(measured: &Measured) -> Vec<Target> {
         most("missing no slower than the Rust", 1.0, starting("missing_from:")),
         most("missing by spans no slower", 1.0, starting("missing_from_spans")),
         most("extra no slower", 1.0, starting("extra_in")),
+        most("planning within 1.5 times of missing_from", 1.5, planned),
         least(
             "insertion at least 10 times as fast as the Rust",
             10.0,

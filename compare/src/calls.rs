@@ -1,5 +1,5 @@
 //! Calls of ours that are lent places for an answer. What is refused, and what the places hold, the Rust hasn't: these are held against
-//! document 01 alone.
+//! the documents alone.
 
 use crate::{
     refusals::Checked,
@@ -21,7 +21,7 @@ impl Calls {
         }
     }
 
-    /// A call that is lent what is marked. It is held against document 01's answer, all that is lent as the call is to leave it, and where
+    /// A call that is lent what is marked. It is held against the documents' answer, all that is lent as the call is to leave it, and where
     /// that is no refusal against the Rust's: `rust` is handed what we wrote.
     pub fn hold<L: Clone + PartialEq + Debug, R: PartialEq + Debug>(
         &mut self,
@@ -62,13 +62,24 @@ impl Calls {
         row.hold(input, against);
     }
 
+    /// The same where there is nothing of the Rust's.
+    pub fn hold_paper<L: Clone + PartialEq + Debug>(
+        &mut self,
+        input: impl Fn() -> String,
+        marked: L,
+        call: impl Fn(&mut L) -> u64,
+        answer: Checked<L>,
+    ) {
+        self.hold_all(input, marked, call, answer, |_, _| None::<Held<()>>);
+    }
+
     pub fn rows(self) -> [Row; 2] {
         [self.accepted, self.refused]
     }
 }
 
 /// The returned number, and all that is lent as it is to be left: a refused call writes nothing.
-fn given<L>(marked: L, answer: Checked<L>) -> (u64, L) {
+pub fn given<L>(marked: L, answer: Checked<L>) -> (u64, L) {
     match answer {
         Err(refusal) => (refusal.returned(), marked),
         Ok(left) => (0, left),

@@ -1,4 +1,5 @@
-//! Inputs: pools by chance in which keys begin alike, keys, items and accepted lists in them, damaged words, and all lists of few items.
+//! Inputs: pools by chance in which keys begin alike, keys, items and accepted lists in them, damaged words, all lists of few items, and
+//! positions.
 
 use crate::{
     boundaries::paper::{compare_items, range},
@@ -320,6 +321,46 @@ pub fn lists_of<T: Copy>(items: &[T], most: usize, passes: impl Fn(&[T]) -> bool
         from = to;
     }
     lists
+}
+
+/// Every pair of points.
+pub fn spans_between(points: &[u64]) -> Vec<[u64; 2]> {
+    let pairs = |start: &u64| {
+        points
+            .iter()
+            .map(|end| [*start, *end])
+            .collect::<Vec<[u64; 2]>>()
+    };
+    points.iter().flat_map(pairs).collect()
+}
+
+/// So many positions at most, from a base on and within a width, that ascend strictly.
+pub fn ascending(random: &mut Random, base: u64, width: u64, count: usize) -> Vec<u64> {
+    let mut points: Vec<u64> = (0..count)
+        .map(|_| base + random.next() % (width + 1))
+        .collect();
+    points.sort();
+    points.dedup();
+    points
+}
+
+/// So many canonical intervals at most, from a base on and within a width, as words.
+pub fn ascending_pairs(random: &mut Random, base: u64, width: u64, count: usize) -> Vec<u64> {
+    let mut words = ascending(random, base, width, 2 * count);
+    words.truncate(words.len() / 2 * 2);
+    words
+}
+
+/// Every eighth time: two numbers change places, one is written over another, or the last one is lost.
+pub fn damage_numbers(random: &mut Random, list: &mut Vec<u64>) {
+    if !list.is_empty() && random.below(8) == 0 {
+        let (x, y) = (random.below(list.len()), random.below(list.len()));
+        match random.below(3) {
+            0 => list.swap(x, y),
+            1 => list[x] = list[y],
+            _ => drop(list.pop()),
+        }
+    }
 }
 
 /// So many ascending keys of one length, up to 8,192, that all begin alike: zeros, then two other bytes, then zeros. Those with the most

@@ -3,7 +3,7 @@
 use crate::{
     calls::{Calls, MARK, WIDE_MARK},
     fernsponge::{self, Report, Span},
-    inputs::lists_of,
+    inputs::{ascending, ascending_pairs, damage_numbers, lists_of, spans_between},
     position_intervals::PositionIntervals,
     positions::{paper, rust},
     random::Random,
@@ -185,18 +185,8 @@ impl All {
     fn random(&mut self, random: &mut Random, most: usize) {
         let width = random.one_of(&[3, 8, 100]) * most as u64;
         let base = random.one_of(&[0, 7, LAST / 2, LAST - width]);
-        let mut some = |count: usize| {
-            let mut points: Vec<u64> = (0..count)
-                .map(|_| base + random.next() % (width + 1))
-                .collect();
-            points.sort();
-            points.dedup();
-            points
-        };
-        let mut words = some(2 * most);
-        if words.len() % 2 != 0 {
-            words.pop();
-        }
+        let mut words = ascending_pairs(random, base, width, most);
+        let mut some = |count: usize| ascending(random, base, width, count);
         let mut proved = some(2 * most);
         // spans between neighbours; some points stand there twice
         let mut ends = some(2 * most);
@@ -211,14 +201,7 @@ impl All {
             proved.dedup();
         }
         for list in [&mut words, &mut proved, &mut ends] {
-            if !list.is_empty() && random.below(8) == 0 {
-                let (x, y) = (random.below(list.len()), random.below(list.len()));
-                match random.below(3) {
-                    0 => list.swap(x, y),
-                    1 => list[x] = list[y],
-                    _ => drop(list.pop()),
-                }
-            }
+            damage_numbers(random, list);
         }
         let mut asked = vec![base, base + width];
         for _ in 0..4 {
@@ -367,17 +350,6 @@ impl All {
 fn chosen(bits: u32) -> Vec<u64> {
     let set = |at: &usize| bits >> at & 1 == 1;
     (0..POINTS.len()).filter(set).map(|at| POINTS[at]).collect()
-}
-
-/// Every pair of points.
-fn spans_between(points: &[u64]) -> Vec<Span> {
-    let pairs = |start: &u64| {
-        points
-            .iter()
-            .map(|end| [*start, *end])
-            .collect::<Vec<Span>>()
-    };
-    points.iter().flat_map(pairs).collect()
 }
 
 /// The text that is told to be at the front: none where there is no room for so much.

@@ -24,6 +24,8 @@ mod many;
 mod many_calls;
 mod many_refused;
 mod pair_calls;
+mod plan_calls;
+pub mod plans;
 mod position_calls;
 mod position_differences;
 mod positions;
@@ -73,6 +75,12 @@ pub struct Size {
     inserted: usize,
     /// the positions over which all queries of two items are tried
     positions: usize,
+    /// the rows over which plans are made of all covered and all proved ones
+    logged: usize,
+    /// the rows of which all missing ones are tried, with all plans that are accepted for them
+    missing: usize,
+    /// the rows over which all plans of three windows are tried
+    windowed: usize,
     /// the counts of items at and near the limit that lists are tried with, beside none and one
     counts: &'static [usize],
 }
@@ -88,6 +96,9 @@ pub const SHORT: Size = Size {
     longest: 512,
     inserted: 2,
     positions: 6,
+    logged: 6,
+    missing: 10,
+    windowed: 3,
     counts: &[2_049],
 };
 
@@ -102,6 +113,9 @@ pub const LONG: Size = Size {
     longest: 2_048,
     inserted: 4,
     positions: 10,
+    logged: 8,
+    missing: 12,
+    windowed: 5,
     counts: &[2_047, 2_048, 2_049],
 };
 
@@ -120,6 +134,7 @@ pub fn run(size: &Size) -> Vec<table::Row> {
     rows.extend(insert_differences::run());
     rows.extend(position_calls::run(random, size));
     rows.extend(interval_calls::run(random, size));
+    rows.extend(plan_calls::run(random, size));
     rows.extend(position_differences::run());
     rows
 }

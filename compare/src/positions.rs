@@ -98,7 +98,7 @@ pub mod paper {
     }
 
     /// Ascending, and joined where one does not end below the next start.
-    fn canonical(mut ranges: Vec<[u64; 2]>) -> Vec<[u64; 2]> {
+    pub fn canonical(mut ranges: Vec<[u64; 2]>) -> Vec<[u64; 2]> {
         ranges.sort();
         let mut pairs: Vec<[u64; 2]> = vec![];
         for [start, end] in ranges {

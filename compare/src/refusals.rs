@@ -1,4 +1,4 @@
-//! What document 01 refuses, and in which order, read as plainly as can be. The Rust refuses none of this.
+//! What document 01 refuses, and what is built of document 02, and in which order, read as plainly as can be. The Rust refuses none of this.
 
 use crate::{
     boundaries::{bare, paper, Boundary, EXCLUSIVE_END},
@@ -190,6 +190,22 @@ pub fn spans(intervals: &[u64], spans: &[[u64; 2]]) -> Checked<()> {
         }
     }
     Ok(())
+}
+
+/// The windows of a plan that is checked: 1 for an odd number of words (02 §9.9).
+pub fn windows(words: &[u64]) -> Checked<()> {
+    match words.len() % 2 {
+        0 => Ok(()),
+        _ => refuse(1, 1, 0),
+    }
+}
+
+/// The most rows of a window: 16 for none (02 §9.9).
+pub fn most(rows: u64) -> Checked<()> {
+    match rows {
+        0 => refuse(16, 0, 0),
+        _ => Ok(()),
+    }
 }
 
 /// The range of an item that has neither 1 nor 2 nor 3.

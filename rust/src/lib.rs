@@ -1,5 +1,6 @@
 //! Ranges of keys and positions of a log, as a rate shopping engine compares them: which lanes two lists share, which only ours has and
-//! which only theirs; what an inserted lane merges with; which rows of a log are covered, missing or extra.
+//! which only theirs; what an inserted lane merges with; which rows of a log are covered, missing or extra, and in which windows to fetch
+//! the missing ones again.
 //!
 //! The answers come from `libfernsponge.a`, whose every function is proved to meet its contract: each call ends on any input, checks the
 //! input itself, and answers, or refuses with a number, a side and an index ([`Refusal`]). A refused call changes nothing.
@@ -41,5 +42,5 @@ pub use lists::{
     insert, insert_item, intersect, intersect_many_into, intersect_many_ordered, Counts, Lists,
     Pair,
 };
-pub use positions::{position_of, PositionIntervals, PositionMismatch, Ranges, Span};
+pub use positions::{position_of, PositionIntervals, PositionMismatch, Ranges, RefetchPlan, Span};
 pub use refusal::{Reason, Refusal, Side};

@@ -1,4 +1,4 @@
-//! Positions of a log: which are covered, and which of them are missing or extra.
+//! Positions of a log: which are covered, which of them are missing or extra, and in which windows to fetch the missing ones again.
 
 use crate::{
     item::Item,
@@ -67,7 +67,7 @@ impl PositionIntervals {
 
     /// Of intervals that are so already; others are refused with 9.
     pub fn from_ranges(ranges: &[Range<u64>]) -> Result<Self, Refusal> {
-        let pairs: Vec<u64> = ranges.iter().flat_map(|r| [r.start, r.end]).collect();
+        let pairs = pairs_of(ranges);
         let mut empty = 0;
         Refusal::from_number(words::is_empty(&pairs, &mut empty))?;
         Ok(Self { pairs })
@@ -110,6 +110,65 @@ impl PositionIntervals {
     pub fn extra_in(&self, proved: &[u64]) -> Result<PositionMismatch, Refusal> {
         report(|off| words::extra_in(&self.pairs, proved, off))
     }
+
+    /// The windows, each of at most `most` rows, that fetch every missing position again: those that are covered and not among the proved
+    /// ones, which ascend strictly. Each window opens at the first missing position that is not yet planned, and ends behind the last one
+    /// within its rows.
+    ///
+    /// A plan may have as many windows as positions are covered, so `room` tells how many calls the caller is ready to make: a longer
+    /// plan is refused with 6. Memory is taken for no more windows than `room`, nor for more than always suffice, which are covered
+    /// positions / `most` + intervals; where it cannot be had, every plan that has a window is refused with 6.
+    ///
+    /// ```
+    /// use fernsponge::PositionIntervals;
+    ///
+    /// let covered = PositionIntervals::from_ranges(&[0..10])?;
+    /// let plan = covered.plan_refetch(&[3, 4], 4, 100)?;
+    /// assert_eq!(plan.windows().collect::<Vec<_>>(), [0..3, 5..9, 9..10]);
+    /// assert!(plan.check(&covered, &[3, 4], 4)?);
+    /// assert_eq!(covered.plan_refetch(&[3, 4], 4, 2).unwrap_err().number, 6);
+    /// # Ok::<(), fernsponge::Refusal>(())
+    /// ```
+    pub fn plan_refetch(
+        &self,
+        proved: &[u64],
+        most: u64,
+        room: usize,
+    ) -> Result<RefetchPlan, Refusal> {
+        let room = room.min(self.always_enough(most));
+        let mut pairs = zeros(room.saturating_mul(2));
+        let mut written = 0;
+        Refusal::from_number(words::plan_refetch(
+            &self.pairs,
+            proved,
+            most,
+            &mut pairs,
+            &mut written,
+        ))?;
+        pairs.truncate(2 * written as usize);
+        Ok(RefetchPlan { pairs })
+    }
+
+    /// No plan of ours has more windows, of at most so many rows each.
+    fn always_enough(&self, most: u64) -> usize {
+        let full = self.len().checked_div(most).unwrap_or(0);
+        let full = usize::try_from(full).unwrap_or(usize::MAX);
+        full.saturating_add(self.pairs.len() / 2)
+    }
+}
+
+/// The two numbers of each range.
+fn pairs_of(ranges: &[Range<u64>]) -> Vec<u64> {
+    ranges.iter().flat_map(|r| [r.start, r.end]).collect()
+}
+
+/// So many zeros, or none where there is no memory for them.
+fn zeros(count: usize) -> Vec<u64> {
+    let mut zeros = vec![];
+    if zeros.try_reserve_exact(count).is_ok() {
+        zeros.resize(count, 0);
+    }
+    zeros
 }
 
 fn report(call: impl FnOnce(&mut Report) -> u64) -> Result<PositionMismatch, Refusal> {
@@ -127,7 +186,7 @@ impl<'a> IntoIterator for &'a PositionIntervals {
     }
 }
 
-/// The intervals of a [`PositionIntervals`], in rising order.
+/// The intervals of a [`PositionIntervals`], in rising order, or the windows of a [`RefetchPlan`], in its order.
 #[derive(Clone, Debug)]
 pub struct Ranges<'a> {
     rest: &'a [u64],
@@ -140,6 +199,78 @@ impl Iterator for Ranges<'_> {
         let (&[start, end], rest) = self.rest.split_first_chunk::<2>()?;
         self.rest = rest;
         Some(start..end)
+    }
+}
+
+/// Windows of rows to fetch again: our planner's ([`PositionIntervals::plan_refetch`]), or another's, of which nothing is known before it is
+/// checked.
+#[derive(Clone, Debug, Default, PartialEq, Eq, Hash)]
+pub struct RefetchPlan {
+    pairs: Vec<u64>,
+}
+
+impl RefetchPlan {
+    /// A plan made elsewhere, of any ranges.
+    pub fn from_windows(windows: &[Range<u64>]) -> Self {
+        Self {
+            pairs: pairs_of(windows),
+        }
+    }
+
+    /// The windows, in the plan's order.
+    pub fn windows(&self) -> Ranges<'_> {
+        Ranges { rest: &self.pairs }
+    }
+
+    /// How many windows there are: the calls that the plan takes.
+    pub fn len(&self) -> usize {
+        self.pairs.len() / 2
+    }
+
+    /// Whether there is none.
+    pub fn is_empty(&self) -> bool {
+        self.pairs.is_empty()
+    }
+
+    /// Whether the plan is accepted: its windows ascend and share no row, each has a row and at most `most` of them, each begins and ends on
+    /// a missing position, and together they contain every missing one. Missing are the covered positions that are not among the proved
+    /// ones, which ascend strictly.
+    ///
+    /// ```
+    /// use fernsponge::{PositionIntervals, RefetchPlan};
+    ///
+    /// let covered = PositionIntervals::from_ranges(&[0..10])?;
+    /// let accepted = |windows: &[_]| RefetchPlan::from_windows(windows).check(&covered, &[3, 4], 4);
+    /// assert!(accepted(&[0..3, 5..7, 7..10])?);
+    /// // 4 is not missing, and 9 is in no window
+    /// assert!(!accepted(&[0..3, 4..8, 8..10])?);
+    /// assert!(!accepted(&[0..3, 5..9])?);
+    /// # Ok::<(), fernsponge::Refusal>(())
+    /// ```
+    pub fn check(
+        &self,
+        covered: &PositionIntervals,
+        proved: &[u64],
+        most: u64,
+    ) -> Result<bool, Refusal> {
+        let mut yes = 0;
+        Refusal::from_number(words::check_plan(
+            &covered.pairs,
+            proved,
+            most,
+            &self.pairs,
+            &mut yes,
+        ))?;
+        Ok(yes == 1)
+    }
+}
+
+impl<'a> IntoIterator for &'a RefetchPlan {
+    type Item = Range<u64>;
+    type IntoIter = Ranges<'a>;
+
+    fn into_iter(self) -> Ranges<'a> {
+        self.windows()
     }
 }
 

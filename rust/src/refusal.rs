@@ -2,7 +2,8 @@
 
 use std::fmt;
 
-/// Whose input is meant: ours or theirs. Position items and intervals are ours; proved positions, spans and an item to insert are theirs.
+/// Whose input is meant: ours or theirs. Position items and intervals are ours; proved positions, spans, windows of a plan and an item to
+/// insert are theirs.
 #[derive(Clone, Copy, Debug, PartialEq, Eq, Hash)]
 pub enum Side {
     /// The first of two lists, or the only input.
@@ -16,7 +17,7 @@ pub enum Side {
 #[non_exhaustive]
 pub enum Reason {
     /// 1: an unknown code or wrapper, words of an absent key that are not 0, a list of more than 2,048 items, a pool of more than 65,536
-    /// bytes, a count beyond its buffer, an odd number of interval words.
+    /// bytes, a count beyond its buffer, an odd number of interval or window words.
     Malformed,
     /// 2: a key longer than 255 bytes, or reaching past the pool.
     KeyOutside,
@@ -34,6 +35,8 @@ pub enum Reason {
     NotAscending,
     /// 9: intervals that are not ascending, nonempty and apart.
     NotCanonical,
+    /// 16: windows of at most 0 rows, which can fetch nothing.
+    EmptyWindows,
     /// A number that this version does not know.
     Unknown,
 }
@@ -52,11 +55,12 @@ pub enum Reason {
 /// ```
 #[derive(Clone, Copy, Debug, PartialEq, Eq, Hash)]
 pub struct Refusal {
-    /// The number of the refusal, 1 to 9.
+    /// The number of the refusal: 1 to 9, or 16.
     pub number: u8,
     /// Whose input is meant.
     pub side: Side,
-    /// The index of the item, pair or position that is meant, from 0; the pool, the shape of a list and want of room have 0.
+    /// The index of the item, pair or position that is meant, from 0; the pool, the shape of a list, want of room and windows of no rows
+    /// have 0.
     pub index: u64,
 }
 
@@ -89,6 +93,7 @@ impl Refusal {
             7 => Reason::NoPosition,
             8 => Reason::NotAscending,
             9 => Reason::NotCanonical,
+            16 => Reason::EmptyWindows,
             _ => Reason::Unknown,
         }
     }
@@ -103,7 +108,7 @@ impl fmt::Display for Refusal {
         let (what, why) = match self.reason() {
             Reason::Malformed => (
                 "item",
-                "malformed: an unknown code or wrapper, a word of an absent key that is not 0, or a list, pool or count beyond its limit",
+                "malformed: an unknown code or wrapper, a word of an absent key that is not 0, a list, pool or count beyond its limit, or an odd number of words",
             ),
             Reason::KeyOutside => ("item", "a key of it is longer than 255 bytes or reaches past the pool"),
             Reason::NotUpright => ("item", "its start stands above its end"),
@@ -119,6 +124,7 @@ impl fmt::Display for Refusal {
                 "interval",
                 "intervals are not empty, ascend, and stand apart from each other",
             ),
+            Reason::EmptyWindows => return write!(f, "windows of at most 0 rows can fetch nothing (refusal 16)"),
             Reason::Unknown => ("input", "refused for a reason that this version does not know"),
         };
         write!(

@@ -231,6 +231,28 @@ mod c {
             examples: &mut [u64; 16],
         ) -> u64;
 
+        pub fn fernsponge_plan_refetch(
+            intervals: *const u64,
+            intervals_length: usize,
+            proved: *const u64,
+            proved_length: usize,
+            most: u64,
+            out: *mut u64,
+            out_length: usize,
+            windows: &mut u64,
+        ) -> u64;
+
+        pub fn fernsponge_check_plan(
+            intervals: *const u64,
+            intervals_length: usize,
+            proved: *const u64,
+            proved_length: usize,
+            most: u64,
+            windows: *const u64,
+            windows_length: usize,
+            yes: &mut u32,
+        ) -> u64;
+
         pub fn fernsponge_describe(
             total: u64,
             count: u64,
@@ -514,6 +536,52 @@ pub fn extra_in(intervals: &[u64], proved: &[u64], report: &mut Report) -> u64 {
             &mut report.total,
             &mut report.count,
             &mut report.examples,
+        )
+    }
+}
+
+/// Writes the windows that fetch the missing rows again, each of at most so many rows, to the front of `out`, and how many there are.
+pub fn plan_refetch(
+    intervals: &[u64],
+    proved: &[u64],
+    most: u64,
+    out: &mut [u64],
+    windows: &mut u64,
+) -> u64 {
+    // SAFETY: as above, of both that are lent for writing
+    unsafe {
+        c::fernsponge_plan_refetch(
+            intervals.as_ptr(),
+            intervals.len(),
+            proved.as_ptr(),
+            proved.len(),
+            most,
+            out.as_mut_ptr(),
+            out.len(),
+            windows,
+        )
+    }
+}
+
+/// Writes 1 where the windows, two numbers each, are a plan that is accepted.
+pub fn check_plan(
+    intervals: &[u64],
+    proved: &[u64],
+    most: u64,
+    windows: &[u64],
+    yes: &mut u32,
+) -> u64 {
+    // SAFETY: as above
+    unsafe {
+        c::fernsponge_check_plan(
+            intervals.as_ptr(),
+            intervals.len(),
+            proved.as_ptr(),
+            proved.len(),
+            most,
+            windows.as_ptr(),
+            windows.len(),
+            yes,
         )
     }
 }

@@ -1,6 +1,7 @@
 //! The typed calls: that each hands its input on and takes its answer apart as it should, and that a refusal changes nothing.
 
 use fernsponge::*;
+use std::ops::Range;
 
 /// A pool of the bytes 0 to 255, so that the key of one byte b stands at offset b.
 fn pool() -> Vec<u8> {
@@ -291,6 +292,141 @@ fn positions() {
         .missing_from_spans(&[Span { start: 0, end: 9 }])
         .unwrap()
         .is_empty());
+}
+
+/// The rows 0 to 9 and 20 to 23, of which 3, 4 and 21 are proved: in windows of 4 rows.
+fn refetched() -> (PositionIntervals, [u64; 3], u64) {
+    let covered = PositionIntervals::from_ranges(&[0..10, 20..24]).unwrap();
+    (covered, [3, 4, 21], 4)
+}
+
+#[test]
+fn a_plan_of_missing_rows() {
+    let (covered, proved, most) = refetched();
+    let plan = covered.plan_refetch(&proved, most, usize::MAX).unwrap();
+    let windows = [0..3, 5..9, 9..10, 20..24];
+    assert_eq!(plan.windows().collect::<Vec<_>>(), windows);
+    assert_eq!((&plan).into_iter().collect::<Vec<_>>(), windows);
+    assert_eq!((plan.len(), plan.is_empty()), (4, false));
+    assert_eq!(plan, RefetchPlan::from_windows(&windows));
+    assert_eq!(plan.check(&covered, &proved, most), Ok(true));
+    assert_eq!(covered.plan_refetch(&proved, most, 4), Ok(plan));
+    // nothing is missing: no window, and no room that it needs
+    let all: Vec<u64> = covered.iter().flatten().collect();
+    let none = covered.plan_refetch(&all, most, 0).unwrap();
+    assert_eq!((none.len(), none.is_empty()), (0, true));
+    assert_eq!(none.check(&covered, &all, most), Ok(true));
+}
+
+#[test]
+fn plans_that_are_not_accepted() {
+    let (covered, proved, most) = refetched();
+    let accepted = |windows: &[_]| {
+        let plan = RefetchPlan::from_windows(windows);
+        plan.check(&covered, &proved, most).unwrap()
+    };
+    assert!(accepted(&[0..3, 5..9, 9..10, 20..24]));
+    assert!(accepted(&[0..1, 1..3, 5..7, 7..10, 20..21, 22..24]));
+    for (fault, windows) in [
+        ("descending", vec![5..9, 0..3, 9..10, 20..24]),
+        ("a row twice", vec![0..3, 5..9, 8..10, 20..24]),
+        ("twice the same", vec![0..3, 0..3, 5..9, 9..10, 20..24]),
+        ("empty", vec![0..3, 5..5, 5..9, 9..10, 20..24]),
+        (
+            "turned round",
+            vec![0..3, Range { start: 9, end: 5 }, 9..10, 20..24],
+        ),
+        ("too wide", vec![0..3, 5..10, 20..24]),
+        ("begins on a proved row", vec![0..3, 4..8, 8..10, 20..24]),
+        ("ends on a proved row", vec![0..4, 5..9, 9..10, 20..24]),
+        ("ends past what is covered", vec![0..3, 5..9, 9..11, 20..24]),
+        ("lacks the first", vec![5..9, 9..10, 20..24]),
+        ("lacks one between", vec![0..3, 5..9, 20..24]),
+        ("lacks the last", vec![0..3, 5..9, 9..10, 20..23]),
+        ("lacks all", vec![]),
+    ] {
+        assert!(!accepted(&windows), "{fault}");
+    }
+}
+
+#[test]
+fn plans_that_are_refused() {
+    let (covered, proved, most) = refetched();
+    let plan = RefetchPlan::default();
+    let told = |refusal: Refusal| (refusal.reason(), refusal.side, refusal.index);
+    let short = covered.plan_refetch(&proved, most, 3).unwrap_err();
+    assert_eq!(told(short), (Reason::NoRoom, Side::Ours, 0));
+    for (proved, most, refused) in [
+        (&[3, 4, 4][..], 0, (Reason::NotAscending, Side::Theirs, 2)),
+        (&[3, 4, 21], 0, (Reason::EmptyWindows, Side::Ours, 0)),
+    ] {
+        let planned = covered.plan_refetch(proved, most, 0).unwrap_err();
+        assert_eq!(told(planned), refused);
+        assert_eq!(planned, plan.check(&covered, proved, most).unwrap_err());
+    }
+    let no_rows = plan.check(&covered, &[], 0).unwrap_err();
+    assert_eq!(
+        no_rows.to_string(),
+        "windows of at most 0 rows can fetch nothing (refusal 16)"
+    );
+}
+
+#[test]
+fn plans_of_more_windows_than_memory() {
+    let all = PositionIntervals::from_ranges(&[0..u64::MAX]).unwrap();
+    for room in [0, 1, 1_000, usize::MAX] {
+        let refusal = all.plan_refetch(&[], 1, room).unwrap_err();
+        assert_eq!(refusal.reason(), Reason::NoRoom);
+        // what is refused before want of room still is
+        let refusal = all.plan_refetch(&[7, 7], 1, room).unwrap_err();
+        assert_eq!(refusal.reason(), Reason::NotAscending);
+        let refusal = all.plan_refetch(&[], 0, room).unwrap_err();
+        assert_eq!(refusal.reason(), Reason::EmptyWindows);
+    }
+    let plan = all.plan_refetch(&[5], u64::MAX - 1, usize::MAX).unwrap();
+    assert_eq!(
+        plan.windows().collect::<Vec<_>>(),
+        [0..u64::MAX - 1, u64::MAX - 1..u64::MAX]
+    );
+    assert_eq!(plan.check(&all, &[5], u64::MAX - 1), Ok(true));
+    let whole = all.plan_refetch(&[5], u64::MAX, 1).unwrap();
+    assert_eq!(whole.windows().collect::<Vec<_>>(), [0..u64::MAX]);
+}
+
+#[test]
+fn a_refused_plan_leaves_what_is_lent() {
+    let (good, missing) = ([0, 10, 20, 24], [3, 4, 21]);
+    let refusal = |number, side: u64, index: u64| number + 256 * side + 65_536 * index;
+    for (intervals, proved, most, room, refused) in [
+        (&good[..3], &[4, 4][..], 0, 0, refusal(1, 0, 0)),
+        (&[0, 10, 10, 24], &[4, 4], 0, 0, refusal(9, 0, 1)),
+        (&good, &[4, 4], 0, 0, refusal(8, 1, 1)),
+        (&good, &missing, 0, 0, refusal(16, 0, 0)),
+        (&good, &missing, 4, 7, refusal(6, 0, 0)),
+    ] {
+        let (mut out, mut windows) = ([7; 9], 7);
+        let lent = &mut out[..room];
+        let returned = words::plan_refetch(intervals, proved, most, lent, &mut windows);
+        assert_eq!((returned, out, windows), (refused, [7; 9], 7));
+    }
+    // an odd last word of what is lent is no fault, and stays
+    let (mut out, mut windows) = ([7; 9], 7);
+    let returned = words::plan_refetch(&good, &missing, 4, &mut out, &mut windows);
+    assert_eq!((returned, windows), (0, 4));
+    assert_eq!(out, [0, 3, 5, 9, 9, 10, 20, 24, 7]);
+    for (intervals, proved, most, plan, refused) in [
+        (&good[..3], &[4, 4][..], 0, &[0, 3, 5][..], refusal(1, 0, 0)),
+        (&[0, 10, 10, 24], &[4, 4], 0, &[0, 3, 5], refusal(9, 0, 1)),
+        (&good, &[4, 4], 0, &[0, 3, 5], refusal(1, 1, 0)),
+        (&good, &[4, 4], 0, &[0, 3], refusal(8, 1, 1)),
+        (&good, &missing, 0, &[0, 3], refusal(16, 0, 0)),
+    ] {
+        let mut yes = 7;
+        let returned = words::check_plan(intervals, proved, most, plan, &mut yes);
+        assert_eq!((returned, yes), (refused, 7));
+    }
+    let odd = Refusal::from_number(refusal(1, 1, 0)).unwrap_err();
+    assert!(odd.to_string().contains("an odd number of words"));
 }
 
 #[test]

@@ -1,19 +1,26 @@
--- The call on two lists and the pairs of a query tell their answers, and leave what was lent to them as they promise. Assumes nothing.
-use Prim.Native.Nat.{ℕ}
-use mathlib.Core.Path.{_≡_, sym, ap, subst, _∙_}
+-- The call on two lists, the pairs of a query and the windows of a plan tell their answers, and leave what was lent to them as they promise.
+-- Assumes nothing.
+use Prim.Native.Nat.{ℕ, _/_}
+use mathlib.Core.Path.{_≡_, refl, sym, ap, subst, _∙_}
 use mathlib.Core.List.{List}
+use native.Mathlib.Omega.{arith}
 use lib.ListN.{length}
+use Rattle.intervals.specs.Intervals.{Interval}
 use Rattle.item_check.specs.declared.Refusal.{Refusal}
 use Rattle.item_check.specs.Checks.{Answer, answered, refused, accepted, refusedAs}
 use Rattle.intersect_many.specs.declared.ManyCounts.{ManyCounts}
 use Rattle.item_lists.specs.Written.{plain, written}
 use Rattle.intersect_many.specs.Lists.{sharedItems, onlyItems, manyAnswer}
-use Rattle.fernsponge.specs.Answers.{refusalNumber}
+use Rattle.fernsponge.specs.Answers.{refusalNumber, returned, left}
 use Rattle.position_query.specs.declared.Built.{Built}
 use Rattle.position_query.specs.declared.Built.the-variants.{Pairs, Refused}
 use Rattle.position_query.specs.Covered.{buildVerdict, builtOf, asVerdict, FromQueryItems}
+use Rattle.position_plan.specs.declared.Planned.{Planned}
+use Rattle.position_plan.specs.declared.Planned.the-variants as planned
+use Rattle.position_plan.specs.Plans.{planAnswer, countIn, plannedOf, PlanRefetch}
 use Rattle.fernsponge.specs.Intersect.{countNumbers, GivesMany}
 use Rattle.fernsponge.specs.Positions.{GivesPairs}
+use Rattle.fernsponge.specs.Plans.{GivesPlan}
 
 module _ {pool ours theirs both mine yours counts both′ mine′ yours′ : List ℕ}
     (p : both′ ≡ written (manyAnswer pool ours theirs both mine yours) (plain (sharedItems pool ours theirs)) both)
@@ -47,3 +54,31 @@ module _ {pool ws : List ℕ} {count : ℕ} {out out′ : List ℕ} where
         written = rw v (subst (λ b. FromQueryItems pool ws count out out′ (builtOf b)) e F);
         kept = rw v;
       }
+
+-- the windows of a plan: how many, or why not
+module _ {ws P : List ℕ} {W : ℕ} {out out′ : List ℕ} where
+  pub plan-told : {told : Planned} {n windows : ℕ} → PlanRefetch ws P W out (plannedOf told) out′ → told ≡ planned.Windows n
+      → GivesPlan ws P W out windows 0 out′ n
+  plan-told {n = n} {windows = windows} F e =
+      let is : answered n ≡ countIn (planAnswer ws P W (length out / 2)) = sym (ap plannedOf e) ∙ F .answer in record {
+        number = go (planAnswer ws P W (length out / 2)) is .0;
+        written = F .words;
+        counted = go (planAnswer ws P W (length out / 2)) is .1;
+      }
+    where
+      go : (x : Answer (List Interval)) → answered n ≡ countIn x → (0 ≡ returned x) × (n ≡ left length x windows)
+      go (answered L) q = (refl, cc)
+      go (refused m s i) q = let z : _≡_ {A = ℕ} 0 1 = cc in absurd (omega arith)
+
+  pub plan-refused : {told : Planned} {refusal : Refusal} {r windows : ℕ} → PlanRefetch ws P W out (plannedOf told) out′
+      → told ≡ planned.Refused refusal → r ≡ refusalNumber (refusal .number) (refusal .side) (refusal .index) → GivesPlan ws P W out windows r out′ windows
+  plan-refused {refusal = refusal} {r = r} {windows = windows} F e n =
+      let is : refusedAs refusal ≡ countIn (planAnswer ws P W (length out / 2)) = sym (ap plannedOf e) ∙ F .answer in record {
+        number = go (planAnswer ws P W (length out / 2)) is .0;
+        written = F .words;
+        counted = go (planAnswer ws P W (length out / 2)) is .1;
+      }
+    where
+      go : (x : Answer (List Interval)) → refusedAs refusal ≡ countIn x → (r ≡ returned x) × (windows ≡ left length x windows)
+      go (answered L) q = let z : _≡_ {A = ℕ} 0 1 = cc in absurd (omega arith)
+      go (refused m s i) q = (n ∙ cc, refl)

@@ -2,3 +2,4 @@ pub mod Answers
 pub mod Calls
 pub mod Intersect
 pub mod Positions
+pub mod Plans

@@ -97,7 +97,7 @@ pub extern "C" fn fernsponge_is_empty(intervals: &[u64], yes: &mut u32) -> u64
     give_yes(position_intervals::ask::is_empty(intervals), yes)
 }
 
-fn give_yes(answer: YesOrNo, yes: &mut u32) -> u64
+pub(crate) fn give_yes(answer: YesOrNo, yes: &mut u32) -> u64
     ensures { λ r. ⌜ r ≡ returned (yesOrNoOf answer) ⌝ }
     ensures { λ _. ⌜ now (yes .exit) ≡ left boolNumber (yesOrNoOf answer) (now (yes .entry)) ⌝ }
 {

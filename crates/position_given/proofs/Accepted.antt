@@ -148,7 +148,7 @@ intervals-first ws P n s i h = rw h
 
 pub sound : (ws : List ℕ) → intervalsVerdict ws ≡ accepted → Sound ws
 sound ws h =
-    let both = accepts (evenVerdict ws) (canonicalVerdict (intervalsOf ws)) .0 h in
+    let both = accepts (evenVerdict 0 ws) (canonicalVerdict (intervalsOf ws)) .0 h in
     record { even = go (eqb (length ws % 2) 0) refl (both .0); canonical = canonical-accepted (intervalsOf ws) (both .1) }
   where
     go : (t : Bool) → eqb (length ws % 2) 0 ≡ t → cond t accepted (refused 1 0 0) ≡ accepted → length ws % 2 ≡ 0

@@ -1,14 +1,14 @@
 -- Pairs at the front of lent words, as a list of intervals of their own. Assumes nothing.
 use Prim.Native.Nat.{ℕ, zero, suc, _+_, _*_, _/_, _≤_}
-use mathlib.Core.Path.{_≡_}
+use mathlib.Core.Path.{_≡_, ap, _∙_}
 use mathlib.Core.List.{List}
 use native.Mathlib.Decide.{decLt}
 use native.Mathlib.Omega.{arith}
 use lib.ListN.{length, take, List·getD-eq-default}
 use lib.Seq.{length-take-le, getD-take}
-use Rattle.intervals.specs.Intervals.{Canonical}
-use Rattle.pairs_sort.specs.Pairs.{pairs}
-use Rattle.pairs_sort.proofs.Laws.{pairs-kept}
+use Rattle.intervals.specs.Intervals.{Interval, Canonical}
+use Rattle.pairs_sort.specs.Pairs.{pairs, flatPairs}
+use Rattle.pairs_sort.proofs.Laws.{pairs-kept, pairs-flat, length-flat}
 use Rattle.position_given.specs.Given.{intervalsOf}
 use Rattle.position_given.specs.Inner.{Sound}
 use Rattle.position_given.proofs.Widths.{nonempty-at}
@@ -39,3 +39,7 @@ module _ (ws : List ℕ) (m : ℕ) (C : Canonical (pairs ws m)) where
     even = rw (length-take-le (2 * m) ws (canonical-fits ws m C)) (omega arith);
     canonical = rw front-intervals C;
   }
+
+-- the words of intervals, read again, are the intervals
+pub flat-intervals : (A : List Interval) → intervalsOf (flatPairs A) ≡ A
+flat-intervals A = let half : length (flatPairs A) / 2 ≡ length A = omega (arith, length-flat A) in ap (pairs (flatPairs A)) half ∙ pairs-flat A

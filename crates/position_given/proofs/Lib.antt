@@ -3,3 +3,4 @@ pub mod Apart
 pub mod Accepted
 pub mod Widths
 pub mod Fronts
+pub mod Held

@@ -12,9 +12,9 @@ use Rattle.pairs_sort.specs.Pairs.{pairs}
 abbrev pub intervalsOf : List ℕ → List Interval
 intervalsOf ws = pairs ws (length ws / 2)
 
--- 01 no.1, refusal.2, refusal.3: pair words odd in number; intervals are side 0, the shape of a list gives index 0
-abbrev pub evenVerdict : List ℕ → Verdict
-evenVerdict ws = cond (eqb (length ws % 2) 0) accepted (refused 1 0 0)
+-- 01 no.1, refusal.2: pair words odd in number; the shape of a list gives its side and index 0
+abbrev pub evenVerdict : ℕ → List ℕ → Verdict
+evenVerdict side ws = cond (eqb (length ws % 2) 0) accepted (refused 1 side 0)
 
 -- 01 no.9, refusal.4: intervals not canonical; reading A17: the index is that of the first pair that is empty or starts at or below the end of
 -- the one before it, e
@@ -27,9 +27,9 @@ unfoldable pub canonicalVerdict : List Interval → Verdict
 canonicalVerdict [] = accepted
 canonicalVerdict (a ∷ A) = cond (ltb (a .0) (a .1)) (firstTouching 1 (a .1) A) (refused 9 0 0)
 
--- 01 refusal.6, reading A29: 1 of intervals, then 9
+-- 01 refusal.3, refusal.6, reading A29: intervals are side 0; 1, then 9
 abbrev pub intervalsVerdict : List ℕ → Verdict
-intervalsVerdict ws = andThen (evenVerdict ws) (canonicalVerdict (intervalsOf ws))
+intervalsVerdict ws = andThen (evenVerdict 0 ws) (canonicalVerdict (intervalsOf ws))
 
 -- 01 no.8, refusal.3, refusal.4, change.4: proved positions not strictly ascending; side 1, the index of the first that is not above the one
 -- before it, p

@@ -8,7 +8,7 @@ ghost use Prim.Native.Nat.{_/_, min};
 ghost use lib.ListN.{length};
 ghost use Rattle.item_check.specs.Checks.{verdictOf};
 ghost use Rattle.pairs_sort.specs.Pairs.{pairs};
-ghost use Rattle.position_given.specs.Given.{intervalsVerdict, canonicalVerdict, ascendingVerdict, provedVerdict};
+ghost use Rattle.position_given.specs.Given.{evenVerdict, intervalsVerdict, canonicalVerdict, ascendingVerdict, provedVerdict};
 use item_check::Checked;
 use item_check::refuse;
 
@@ -25,10 +25,20 @@ pub struct RowCount(pub u64);
 pub fn check_intervals(intervals: &[u64]) -> Checked
     ensures { λ r. ⌜ verdictOf r ≡ intervalsVerdict (now (intervals .entry)) ⌝ }
 {
-    if intervals.len() % 2 != 0 {
-        return refuse(1, 0, 0);
+    match check_even(intervals, 0) {
+        Checked::Refused(r) => Checked::Refused(r),
+        Checked::Accepted => check_canonical(intervals),
     }
-    check_canonical(intervals)
+}
+
+// inner: whether words are in pairs, on a side; else 1.
+pub fn check_even(words: &[u64], side: u32) -> Checked
+    ensures { λ r. ⌜ verdictOf r ≡ evenVerdict side (now (words .entry)) ⌝ }
+{
+    if words.len() % 2 != 0 {
+        return refuse(1, side, 0);
+    }
+    Checked::Accepted
 }
 
 // Each pair is nonempty and starts above the end of the one before it; else 9. The first has none before it.
@@ -56,7 +66,7 @@ fn check_canonical(intervals: &[u64]) -> Checked
     Checked::Accepted
 }
 
-// inner: whether the proved positions, of accepted intervals, ascend strictly.
+// inner: whether words are intervals, and the positions proved of them ascend strictly.
 pub fn check_proved(intervals: &[u64], proved: &[u64]) -> Checked
     ensures { λ r. ⌜ verdictOf r ≡ provedVerdict (now (intervals .entry)) (now (proved .entry)) ⌝ }
 {
@@ -66,8 +76,8 @@ pub fn check_proved(intervals: &[u64], proved: &[u64]) -> Checked
     }
 }
 
-// Each position is above the one before it; else 8.
-fn check_ascending(proved: &[u64]) -> Checked
+// inner: whether each position is above the one before it; else 8.
+pub fn check_ascending(proved: &[u64]) -> Checked
     ensures { λ r. ⌜ verdictOf r ≡ ascendingVerdict (now (proved .entry)) ⌝ }
 {
     let count = proved.len();

@@ -1,12 +1,15 @@
 -- From query items to answers: where `from_query_items` answers m, the first m pairs of the lent words are accepted by `contains`, `len`,
--- `is_empty`, `missing_from`, `extra_in` and `missing_from_spans`, and these answer what the items cover. Stated of each call's own promise: r is
--- what `from_query_items` answers, old and new are the lent words before and after. No contract cites this file. Assumes nothing.
-use Prim.Native.Nat.{ℕ, _*_}
+-- `is_empty`, `missing_from`, `extra_in`, `missing_from_spans`, `plan_refetch` and `check_plan`, and these answer what the items cover. Stated of
+-- each call's own promise: r is what `from_query_items` answers, old and new are the lent words before and after. No contract cites this file.
+-- Assumes nothing.
+use Prim.Native.Nat.{ℕ, _*_, _%_, _<_}
 use mathlib.Core.Path.{_≡_, ap, _∙_}
-use mathlib.Core.Bool.{Bool, not, _&&_}
+use mathlib.Core.Bool.{Bool, false, not, _&&_}
 use mathlib.Core.List.{List}
+use native.Mathlib.Omega.{arith}
 use lib.Dec.{eqb}
 use lib.ListN.{length, take}
+use borrow.Author.Tests.{eq-eqb, ne-eqb}
 use Rattle.intervals.specs.Lists.{keep}
 use Rattle.intervals.specs.Intervals.{Interval, holds}
 use Rattle.item_check.specs.Checks.{Answer, answered, accepted, itemsOf}
@@ -14,7 +17,7 @@ use Rattle.pairs_sort.specs.Pairs.{pairs}
 use Rattle.position_given.specs.Given.{intervalsOf, intervalsVerdict}
 use Rattle.position_given.specs.Inner.{Sound, Ascends}
 use Rattle.position_given.specs.Positions.{countUp, positionsOf}
-use Rattle.position_given.proofs.Accepted.{sound-accepts, proved-accepts}
+use Rattle.position_given.proofs.Accepted.{sound-accepts, ascending-accepts, proved-accepts}
 use Rattle.position_given.proofs.Fronts.{front-intervals, front-sound}
 use Rattle.position_intervals.specs.Asked.{containsAnswer, lenAnswer, isEmptyAnswer}
 use Rattle.position_query.specs.Covered.{covered, Covers, FromQueryItems}
@@ -22,6 +25,7 @@ use Rattle.position_report.specs.Reports.{reportOf}
 use Rattle.position_mismatch.specs.Reports.{isIn, missing, extra, firstCrossing, missingAnswer, extraAnswer, spansAnswer}
 use Rattle.position_mismatch.proofs.Laws.{spans-as-positions}
 use Rattle.position_mismatch.proofs.Positions.{in-positions, ascends-spans, keep-same, keep-keep}
+use Rattle.position_plan.specs.Plans.{accepts, plan, fitted, planAnswer, checkAnswer}
 use Rattle.position_joined.proofs.Covered.{covered-positions}
 
 module _ (pool ws : List ℕ) (count : ℕ) (old new : List ℕ) (r : Answer ℕ)
@@ -81,3 +85,22 @@ module _ (pool ws : List ℕ) (count : ℕ) (old new : List ℕ) (r : Answer ℕ
       spans-as-positions (take (2 * m) new) S h
       ∙ built-missing (positionsOf S) (ascends-spans 0 0 S h)
       ∙ ap (λ (L : List ℕ). answered (reportOf L)) same
+
+  -- of strictly ascending positions P, and windows of at most W rows, the covered positions that are not in P are planned and checked
+  module _ (P : List ℕ) (W : ℕ) (a : Ascends 0 P) (w : 0 < W) where
+    lost : missing (pairs new m) P ≡ keep (λ p. covered pool (itemsOf ws) count p && not (isIn P p)) (countUp 0 count)
+    unfolding missing
+    lost = rw (positions, keep-keep)
+
+    wide : eqb W 0 ≡ false
+    wide = ne-eqb W 0 (λ e. omega arith)
+
+    -- 02 §9.7: `plan_refetch` plans them, where the windows have room
+    pub built-planned : (room : ℕ) → planAnswer (take (2 * m) new) P W room
+        ≡ fitted room (plan W (keep (λ p. covered pool (itemsOf ws) count p && not (isIn P p)) (countUp 0 count)))
+    built-planned room = rw (built-accepted, ascending-accepts P a, wide, written, lost)
+
+    -- 02 §9.2: `check_plan` answers whether a plan, words in pairs, is accepted for them
+    pub built-checked : (vs : List ℕ) → length vs % 2 ≡ 0 → checkAnswer (take (2 * m) new) P W vs
+        ≡ answered (accepts W (keep (λ p. covered pool (itemsOf ws) count p && not (isIn P p)) (countUp 0 count)) (intervalsOf vs))
+    built-checked vs h = rw (built-accepted, eq-eqb (length vs % 2) 0 h, ascending-accepts P a, wide, written, lost)

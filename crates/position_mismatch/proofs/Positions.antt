@@ -6,7 +6,7 @@ use mathlib.Core.List.{List, [], _∷_, _++_, append-assoc}
 use native.Mathlib.Decide.{decLt, ℕ-discrete}
 use native.Mathlib.Omega.{arith}
 use lib.Dec.{leb, eqb}
-use lib.ListN.{length}
+use lib.ListN.{length, getD}
 use borrow.Author.Tests.{leb-true, eq-eqb, ne-eqb}
 use Rattle.intervals.specs.Lists.{keep}
 use Rattle.intervals.specs.Intervals.{Interval, Above, inside, holds}
@@ -151,13 +151,16 @@ in-none : (p : ℕ) → isIn [] p ≡ false
 unfolding isIn
 in-none p = refl
 
-in-head : (p : ℕ) (L : List ℕ) → isIn (p ∷ L) p ≡ true
+pub in-head : (p : ℕ) (L : List ℕ) → isIn (p ∷ L) p ≡ true
 unfolding isIn
 in-head p L = rw (eq-eqb p p refl)
 
-in-tail : (p q : ℕ) (L : List ℕ) → (q ≡ p → ⊥) → isIn (p ∷ L) q ≡ isIn L q
+pub in-tail : (p q : ℕ) (L : List ℕ) → (q ≡ p → ⊥) → isIn (p ∷ L) q ≡ isIn L q
 unfolding isIn
 in-tail p q L h = rw (ne-eqb q p h)
+
+pub in-later : (p q : ℕ) (L : List ℕ) → isIn L q ≡ true → isIn (p ∷ L) q ≡ true
+in-later p q L e = elim (ℕ-discrete q p) [ yes k ↦ rw k (in-head p L) | no k ↦ in-tail p q L k ∙ e ]
 
 -- two ascending lists that have the same members are the same list
 pub ascends-unique : (lo lo′ : ℕ) (L M : List ℕ) → Ascends lo L → Ascends lo′ M → ((p : ℕ) → isIn L p ≡ isIn M p) → L ≡ M
@@ -189,9 +192,29 @@ pub length-ascends : (lo hi : ℕ) (L : List ℕ) → Ascends lo L → lo ≤ hi
 length-ascends lo hi [] a l h = omega arith
 length-ascends lo hi (p ∷ L) a l h =
     omega (arith, a .0, length-ascends (suc p) hi L (a .1) (h p (in-head p L)) (λ q e. h q (in-later p q L e)))
-  where
-    in-later : (p q : ℕ) (L : List ℕ) → isIn L q ≡ true → isIn (p ∷ L) q ≡ true
-    in-later p q L e = elim (ℕ-discrete q p) [ yes k ↦ rw k (in-head p L) | no k ↦ in-tail p q L k ∙ e ]
+
+-- ---- by index
+
+-- what stands at an index is in the list
+pub in-at : (L : List ℕ) (k : ℕ) → k < length L → isIn L (getD L k 0) ≡ true
+in-at [] k h = absurd (omega arith)
+in-at (p ∷ L) zero h = in-head p L
+in-at (p ∷ L) (suc k) h = in-later p (getD L k 0) L (in-at L k (omega arith))
+
+pub ascends-next : (lo : ℕ) (L : List ℕ) (k : ℕ) → Ascends lo L → suc k < length L → getD L k 0 < getD L (suc k) 0
+ascends-next lo [] k a h = absurd (omega arith)
+ascends-next lo (p ∷ []) k a h = absurd (omega arith)
+ascends-next lo (p ∷ q ∷ L) zero a h = a .1 .0
+ascends-next lo (p ∷ q ∷ L) (suc k) a h = ascends-next (suc p) (q ∷ L) k (a .1) (omega arith)
+
+-- a number above those before index j, and below the one there, is not in the list
+pub in-gap : (lo : ℕ) (L : List ℕ) (j p : ℕ) → Ascends lo L → ((k : ℕ) → k < j → getD L k 0 < p) → (j < length L → p < getD L j 0)
+    → isIn L p ≡ false
+in-gap lo [] j p a h f = in-none p
+in-gap lo (q ∷ L) zero p a h f = in-below q (q ∷ L) p (omega arith, a .1) (f (omega arith))
+in-gap lo (q ∷ L) (suc j) p a h f =
+    in-tail q p L (λ e. omega (arith, h 0 (omega arith)))
+    ∙ in-gap (suc q) L j p (a .1) (λ k l. h (suc k) (omega arith)) (λ l. f (omega arith))
 
 -- ---- what is kept
 

@@ -1,8 +1,8 @@
 -- The passes over proved positions: where the walk for the missing ones, and the search for the extra ones, stand after some positions.
 -- Assumes nothing.
-use Prim.Native.Nat.{ℕ, zero, suc, _+_, _-_, _/_, _≤_, _<_, min}
+use Prim.Native.Nat.{ℕ, suc, _+_, _/_, _≤_, _<_, min}
 use mathlib.Core.Path.{_≡_, refl, sym, ap, _∙_}
-use mathlib.Core.Bool.{Bool, true, false, not, _&&_, and-true, or-false, true≢false}
+use mathlib.Core.Bool.{Bool, true, false, not, _&&_, true≢false}
 use mathlib.Core.List.{List, [], _∷_, _++_, append-nil}
 use native.Mathlib.Decide.{decLt, ℕ-discrete}
 use native.Mathlib.Numerals.{add-one}
@@ -10,17 +10,16 @@ use native.Mathlib.Omega.{arith}
 use lib.ListN.{length, getD, take, drop}
 use lib.Seq.{take-suc, take-all, drop-cons, length-take-le}
 use lib.Dec.{leb, ltb}
-use borrow.Author.Tests.{lt-ltb, le-ltb, eq-eqb, ne-eqb}
+use borrow.Author.Tests.{eq-eqb, ne-eqb}
 use Rattle.intervals.specs.Lists.{keep}
-use Rattle.intervals.specs.Intervals.{Interval, Canonical, inside, holds}
+use Rattle.intervals.specs.Intervals.{inside, holds}
 use Rattle.intervals.proofs.Members.{inside-below, inside-yes, inside-past}
-use Rattle.intervals.proofs.Laws.{holds-append, keep-append}
-use Rattle.pairs_sort.specs.Pairs.{start, finish, pairsFrom, pairs}
-use Rattle.pairs_sort.proofs.Laws.{pairs-append, pairs-more}
+use Rattle.intervals.proofs.Laws.{keep-append}
+use Rattle.pairs_sort.specs.Pairs.{start, finish}
 use Rattle.position_given.specs.Given.{intervalsOf}
 use Rattle.position_given.specs.Positions.{countUp}
 use Rattle.position_given.specs.Inner.{Sound, Ascends, lastWord}
-use Rattle.position_given.proofs.Apart.{apart-below, apart-back}
+use Rattle.position_given.proofs.Held.{held-at}
 use Rattle.position_given.proofs.Widths.{Words}
 use Rattle.position_report.specs.declared.PositionMismatch.{PositionMismatch}
 use Rattle.position_report.specs.Reports.{reportOf}
@@ -84,33 +83,6 @@ passed-more ws from i p h l k a b = elim (decLt k i) [
 
 ascends-member : (lo : ℕ) (L : List ℕ) (p : ℕ) → Ascends lo L → isIn L p ≡ true → lo ≤ p
 ascends-member lo L p a e = elim (decLt p lo) [ yes h ↦ absurd (true≢false (sym e ∙ in-below lo L p a h)) | no h ↦ omega arith ]
-
-past-none : (ws : List ℕ) (k i p : ℕ) → ((j : ℕ) → i ≤ j → j < i + k → finish ws j ≤ p) → holds (pairsFrom ws i k) p ≡ false
-unfolding holds pairsFrom
-past-none ws zero i p h = refl
-past-none ws (suc k) i p h =
-    rw (inside-past (start ws i) (finish ws i) p (h i (omega arith) (omega arith)))
-    (past-none ws k (suc i) p (λ j a b. h j (omega arith) (omega arith)))
-
--- the first pair that ends above p decides
-held-at : (ws : List ℕ) (r p : ℕ) → Canonical (intervalsOf ws) → ((k : ℕ) → k < r → finish ws k ≤ p) → (r < length ws / 2 → p < finish ws r)
-    → holds (intervalsOf ws) p ≡ ltb r (length ws / 2) && leb (start ws r) p
-held-at ws r p C h f = elim (decLt r (length ws / 2)) [
-  | yes l ↦
-      let n = length ws / 2 in
-      let q : n ≡ r + (n - r) = omega arith in
-      let z : 0 + r ≡ r = omega arith in
-      let split : pairs ws n ≡ pairs ws r ++ pairsFrom ws r (n - r) =
-      ap (λ (m : ℕ). pairs ws m) q ∙ pairs-append ws r (n - r) 0 ∙ ap (λ (j : ℕ). pairs ws r ++ pairsFrom ws j (n - r)) z in
-      let back = rw (pairs-more ws r n l) at (apart-back 0 (pairs ws r) (pairsFrom ws r (n - r)) (rw split at C)) in
-      let later : holds (pairsFrom ws (r + 1) (n - (r + 1))) p ≡ false = apart-below (suc (finish ws r)) _ p (back .2) (omega (arith, f l)) in
-      rw (lt-ltb r n l, split, holds-append (pairs ws r) (pairsFrom ws r (n - r)) p, past-none ws r 0 p (λ j a b. h j (omega arith)), pairs-more ws r n l)
-      (one (start ws r) (finish ws r) (pairsFrom ws (r + 1) (n - (r + 1))) (f l) later)
-  | no l ↦ rw (le-ltb r (length ws / 2) (omega arith)) (past-none ws (length ws / 2) 0 p (λ j a b. h j (omega arith)))
-]
-  where
-    one : (s e : ℕ) (B : List Interval) → p < e → holds B p ≡ false → holds ((s, e) ∷ B) p ≡ leb s p
-    one s e B l h = unfold holds inside in rw (lt-ltb p e l, h, and-true, or-false)
 
 -- after i of the positions: the report is theirs, and no pair that is passed ends above one of the others
 pub record Sorted (ws P : List ℕ) (report : PositionMismatch) (pair i : ℕ) : Type 0 where

@@ -1,11 +1,12 @@
 // A walk along intervals that reports what stands between proved positions. What a turn costs does not grow with a gap's width.
 ghost use mathlib.Core.Path.{_≡_};
 ghost use mathlib.Core.Bool.{_&&_};
-ghost use Prim.Native.Nat.{_/_, max};
+ghost use Prim.Native.Nat.{_/_};
 ghost use lib.ListN.{length};
 ghost use lib.Dec.{leb, ltb};
 ghost use Rattle.pairs_sort.specs.Pairs.{start};
 ghost use Rattle.position_mismatch.specs.Inner.{walkWith, reportUntil, pairsLeft, overSpan, FirstPast};
+use pairs_sort::larger;
 use position_given::smaller;
 use position_report::Counted;
 use position_report::PositionMismatch;
@@ -74,12 +75,6 @@ pub(crate) fn report_until(
         total: counted.total,
         count: counted.count,
     }
-}
-
-fn larger(x: u64, y: u64) -> u64
-    ensures { λ r. ⌜ r ≡ max x y ⌝ }
-{
-    if x < y { y } else { x }
 }
 
 // The first pair, from pair i on, that ends above a position.

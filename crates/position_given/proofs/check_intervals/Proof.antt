@@ -1,25 +1,21 @@
--- `check_intervals` meets its contract: an odd number of words is 1, which is stated before the verdict is rewritten by it; then the pairs are
--- asked. Assumes nothing.
-use Prim.Native.Nat.{_%_}
-use mathlib.Core.Path.{_≡_, _∙_}
-use mathlib.Core.Bool.{false}
-use lib.ListN.{length}
-use lib.Dec.{eqb}
-use borrow.Author.Tests.{ne-eqb}
-use Rattle.item_check.proofs.Tests.{tests}
+-- `check_intervals` meets its contract: the words are in pairs, then the pairs are asked. Assumes nothing.
 use borrow.Author.Needs.{needs}
 use Rattle.position_given.proofs.check_intervals.Statement.{statement}
 use Rattle.position_given.proofs.check_intervals.Tie as tie
 
 returns : tie.Need-returns
-returns c =
-    let words = c .before .before .before .args .intervals .now in
-    let odd : eqb (length words % 2) 0 ≡ false = ne-eqb (length words % 2) 0 (c .before .if1 .taken) in
-    c .refuse .ensures ∙ rw odd
+returns c = rw (← c .before .before .before .check-even .ensures, c .before .r .given .1)
 
 returns-2 : tie.Need-returns-2
-returns-2 c = c .check-canonical .ensures ∙ search tests
+returns-2 c = rw (← c .before .before .before .check-even .ensures, c .before .enum-told .given .1) (c .check-canonical .ensures)
 
 pub check-intervals-spec : {M : Type 1} → statement M
 check-intervals-spec =
-    tie.close (tie.spec (λ c κs. search needs) returns (λ c κs. search needs) returns-2)
+    tie.close
+    (tie.spec
+    (λ c κs. search needs)
+    (λ c. search needs)
+    (λ c. search needs)
+    (λ c κs. search needs)
+    returns
+    returns-2)
