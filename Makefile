@@ -70,7 +70,7 @@ compare-short:
 	    echo "compare-short: left out, as cargo or the Rust's sources (GROVEDB_SRC=$(GROVEDB_SRC)) are not at hand"; \
 	fi
 
-# The library linked, where a C compiler and cargo are at hand: the header, C's example and the document's listing; the Rust crate's own
+# The library linked, where a C compiler and cargo are at hand: the header, C's examples and what they write; the Rust crate's own
 # tests, its doc examples and its example program.
 link-short:
 	@if command -v cc >/dev/null; then \
@@ -87,6 +87,8 @@ link-short:
 link-c: lib
 	cc -std=c11 -Wall -Wextra -Wpedantic -Werror -Itarget/include c/listing.c target/lib/libfernsponge.a -o target/listing
 	target/listing | diff - crates/krl/stdout
+	cc -std=c11 -Wall -Wextra -Wpedantic -Werror -Itarget/include c/plan.c target/lib/libfernsponge.a -o target/plan
+	target/plan | diff - c/plan.stdout
 
 link-rust: lib
 	$(CARGO) test --quiet --offline --manifest-path rust/Cargo.toml

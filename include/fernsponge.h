@@ -193,7 +193,7 @@ uint64_t fernsponge_plan_refetch(const uint64_t *intervals, size_t intervals_len
  * and ends on a missing row, and together they contain every missing row. A window may start at the end of the one before it. Any other plan
  * is answered 0; of its words only an odd number is refused, before what is wrong with the proved positions. */
 uint64_t fernsponge_check_plan(const uint64_t *intervals, size_t intervals_length, const uint64_t *proved, size_t proved_length, uint64_t most,
-                               const uint64_t *windows, size_t windows_length, uint32_t *yes);
+                               const uint64_t *plan, size_t plan_length, uint32_t *yes);
 
 /* The text of a report, at the front of out; *written is its length, 394 bytes at most, with no 0 at its end. */
 uint64_t fernsponge_describe(uint64_t total, uint64_t count, const uint64_t examples[FERNSPONGE_EXAMPLES], uint8_t *out, size_t out_length,

@@ -151,14 +151,22 @@ pub fn building() -> Vec<Line> {
     lines
 }
 
-/// Of the proved positions all are covered, or every second one.
-const SHAPES: [(&str, u64); 2] = [("all proved", 1), ("every second one missing", 2)];
+/// How wide intervals are, and the step from one proved position to the next: all of the intervals is proved, or every second row; in the
+/// last two the same positions, of which half stand between the intervals, or all in them.
+const ALL_PROVED: (u64, u64) = (50, 1);
+const HALF_BETWEEN: (u64, u64) = (50, 2);
+const ALL_COVERED: (u64, u64) = (100, 2);
 
-/// 2,000 intervals of 50, each 100 after the one before, and 100,000 proved positions, which go on with the same step up to the next.
-fn intervals_and_proved(step: u64) -> [Vec<u64>; 2] {
+const SHAPES: [(&str, (u64, u64)); 2] = [
+    ("all proved", ALL_PROVED),
+    ("every second one missing", HALF_BETWEEN),
+];
+
+/// 2,000 intervals, each twice its width after the one before, and 50 proved positions from the start of each on.
+fn intervals_and_proved((width, step): (u64, u64)) -> [Vec<u64>; 2] {
     const INTERVALS: u64 = 2_000;
-    let starts = || (0..INTERVALS).map(|at| 100 * at);
-    let intervals: Vec<u64> = starts().flat_map(|start| [start, start + 50]).collect();
+    let starts = || (0..INTERVALS).map(|at| 2 * width * at);
+    let intervals: Vec<u64> = starts().flat_map(|start| [start, start + width]).collect();
     let proved: Vec<u64> = starts()
         .flat_map(|start| (0..50).map(move |at| start + step * at))
         .collect();
@@ -169,8 +177,8 @@ fn intervals_and_proved(step: u64) -> [Vec<u64>; 2] {
 /// 2,000 intervals, and 100,000 positions that are all theirs, or half of which stand between them.
 pub fn mismatches() -> Vec<Line> {
     let mut lines = vec![];
-    for (shape, step) in SHAPES {
-        let [intervals, proved] = intervals_and_proved(step);
+    for (shape, steps) in SHAPES {
+        let [intervals, proved] = intervals_and_proved(steps);
         let spans = spans_of(&proved);
         let rust = Positions::new(&intervals, &proved, &spans);
         let (intervals, proved, spans, rust) = (&intervals[..], &proved[..], &spans[..], &rust);
@@ -206,6 +214,7 @@ pub fn mismatches() -> Vec<Line> {
 /// The least times of our calls on one log, in nanoseconds.
 pub struct Planned {
     pub what: String,
+    pub most: u64,
     /// whether the room is that which is always enough
     pub always: bool,
     pub plan: f64,
@@ -213,24 +222,31 @@ pub struct Planned {
     pub missing: f64,
 }
 
-/// The same intervals and positions, and windows of at most 1 and 500 rows: in the room that is always enough, and where rows are missing in
-/// room that is exactly enough.
+/// The same intervals and positions, and intervals in which all positions stand; windows of at most 1, 10 and 500 rows, in the room that is
+/// always enough, and where most runs are missing in room that is exactly enough.
 pub fn planning() -> Vec<Planned> {
-    let logs = SHAPES.map(|(shape, step)| {
-        let [intervals, proved] = intervals_and_proved(step);
-        (shape, Log::new(intervals, proved))
-    });
+    let shapes = [
+        ("all proved", ALL_PROVED),
+        (
+            "every second row missing, half of the positions between",
+            HALF_BETWEEN,
+        ),
+        ("every second row missing", ALL_COVERED),
+    ];
     let mut rows = vec![];
-    for (shape, log) in &logs {
-        for most in [1, 500] {
+    for (shape, steps) in shapes {
+        let [intervals, proved] = intervals_and_proved(steps);
+        let log = Log::new(intervals, proved);
+        for most in [1, 10, 500] {
             let enough = log.enough(most).expect("the log is accepted");
-            rows.push(planned(log, shape, most, enough, true));
+            rows.push(planned(&log, shape, most, enough, true));
         }
-    }
-    let (shape, log) = &logs[1];
-    for most in [1, 500] {
-        let exact = log.windows(most, usize::MAX).len();
-        rows.push(planned(log, shape, most, exact, false));
+        if steps == ALL_COVERED {
+            for most in [1, 10, 500] {
+                let exact = log.windows(most, usize::MAX).len();
+                rows.push(planned(&log, shape, most, exact, false));
+            }
+        }
     }
     rows
 }
@@ -258,6 +274,7 @@ fn planned(log: &Log, shape: &str, most: u64, room: usize, always: bool) -> Plan
     let fits = if always { "" } else { ", room exactly enough" };
     Planned {
         what: format!("{shape}, W {most}: {told} windows{fits}"),
+        most,
         always,
         plan,
         check,

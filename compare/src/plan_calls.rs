@@ -213,13 +213,15 @@ impl All {
         }
     }
 
-    /// Our planner with room that is just enough, with one number to spare, one number or one window short, and with none; its plan, which
-    /// is handed back, is checked.
+    /// Our planner with room that is just enough, with one number to spare, one number or one window short, with none, and with so much as is
+    /// always enough; its plan, which is handed back, is checked.
     fn planned(&mut self, log: &Log, most: u64) -> Vec<Window> {
         let plan = log.windows(most, MOST_WINDOWS);
         let exact = 2 * plan.len();
         let fewer = [0, exact.saturating_sub(2), exact.saturating_sub(1)];
         let mut rooms = [&fewer[..], &[exact, exact + 1]].concat();
+        rooms.extend(always_enough(log, most).map(|enough| 2 * enough));
+        rooms.sort();
         rooms.dedup();
         for room in rooms {
             self.plan(log, most, room);
@@ -252,11 +254,10 @@ impl All {
         );
     }
 
-    /// Our planner's plan of an accepted log, in the room that is always enough, is accepted (02 §9.8). Tells how many windows it has.
-    fn enough(&mut self, log: &Log, most: u64) -> usize {
-        let Some(enough) = log.enough(most).filter(|enough| *enough <= MOST_WINDOWS) else {
-            return 0;
-        };
+    /// Our planner's plan of an accepted log, in the room that is always enough, is accepted (02 §9.8). Tells how many windows it has, where
+    /// they are not too many to be made.
+    fn enough(&mut self, log: &Log, most: u64) -> Option<usize> {
+        let enough = always_enough(log, most)?;
         let (mut out, mut count, mut yes) = (wide_lent(2 * enough), WIDE_MARK, MARK);
         let (intervals, proved) = (&log.intervals, &log.proved);
         let planned = fernsponge::plan_refetch(intervals, proved, most, &mut out, &mut count);
@@ -267,7 +268,7 @@ impl All {
             || format!("{log:?}, at most {most} rows"),
             Against::paper((planned, checked, yes), (0, 0, 1)),
         );
-        count
+        Some(count)
     }
 
     /// Each of some plans, checked: where it is accepted, it has no fewer windows than our planner's.
@@ -275,7 +276,7 @@ impl All {
         let fewest = self.enough(log, most);
         for plan in plans {
             self.read(log, |missing| missing.accepts(most, plan));
-            if self.checked(log, most, plan.as_flattened()) {
+            if let (true, Some(fewest)) = (self.checked(log, most, plan.as_flattened()), fewest) {
                 self.fewest.hold(
                     || format!("{plan:?} of {log:?}, at most {most} rows"),
                     Against::paper(plan.len() >= fewest, true),
@@ -311,6 +312,11 @@ impl All {
         );
         answer == Ok(true)
     }
+}
+
+/// How many windows are always enough, where they are not too many to be made.
+fn always_enough(log: &Log, most: u64) -> Option<usize> {
+    log.enough(most).filter(|enough| *enough <= MOST_WINDOWS)
 }
 
 /// The log whose covered and proved rows are the bits that are set, from a base on.

@@ -170,8 +170,12 @@ impl Row {
         }
     }
 
+    /// A row without a call shows nothing, and is a failure.
     pub fn failures(&self) -> u64 {
-        self.failures
+        match self.calls {
+            0 => 1,
+            _ => self.failures,
+        }
     }
 
     fn cells(&self) -> [String; 6] {
@@ -187,7 +191,7 @@ impl Row {
                 0 => "-".to_string(),
                 listed => format!("{}: {}", self.difference, grouped(listed)),
             },
-            self.failures.to_string(),
+            self.failures().to_string(),
         ]
     }
 }

@@ -2,7 +2,7 @@
 
 use crate::{
     item::Item,
-    refusal::Refusal,
+    refusal::{Reason, Refusal},
     words::{self, Report},
 };
 use std::{fmt, ops::Range};
@@ -116,8 +116,8 @@ impl PositionIntervals {
     /// within its rows.
     ///
     /// A plan may have as many windows as positions are covered, so `room` tells how many calls the caller is ready to make: a longer
-    /// plan is refused with 6. Memory is taken for no more windows than `room`, nor for more than always suffice, which are covered
-    /// positions / `most` + intervals; where it cannot be had, every plan that has a window is refused with 6.
+    /// plan is refused with 6. Memory is taken for 4,096 windows at first; for a longer plan it is taken for as many as `room` allows, but
+    /// no more than always suffice, covered positions / `most` + intervals. Where the system grants none, such a plan is refused with 6 too.
     ///
     /// ```
     /// use fernsponge::PositionIntervals;
@@ -136,6 +136,16 @@ impl PositionIntervals {
         room: usize,
     ) -> Result<RefetchPlan, Refusal> {
         let room = room.min(self.always_enough(most));
+        match self.plan_in(proved, most, room.min(FEW_WINDOWS)) {
+            Err(refusal) if refusal.reason() == Reason::NoRoom && room > FEW_WINDOWS => {
+                self.plan_in(proved, most, room)
+            }
+            planned => planned,
+        }
+    }
+
+    /// The same in room for so many windows.
+    fn plan_in(&self, proved: &[u64], most: u64, room: usize) -> Result<RefetchPlan, Refusal> {
         let mut pairs = zeros(room.saturating_mul(2));
         let mut written = 0;
         Refusal::from_number(words::plan_refetch(
@@ -156,6 +166,9 @@ impl PositionIntervals {
         full.saturating_add(self.pairs.len() / 2)
     }
 }
+
+/// A plan that has no more windows takes no more memory than these need.
+const FEW_WINDOWS: usize = 4_096;
 
 /// The two numbers of each range.
 fn pairs_of(ranges: &[Range<u64>]) -> Vec<u64> {

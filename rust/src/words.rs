@@ -248,8 +248,8 @@ mod c {
             proved: *const u64,
             proved_length: usize,
             most: u64,
-            windows: *const u64,
-            windows_length: usize,
+            plan: *const u64,
+            plan_length: usize,
             yes: &mut u32,
         ) -> u64;
 
@@ -563,12 +563,12 @@ pub fn plan_refetch(
     }
 }
 
-/// Writes 1 where the windows, two numbers each, are a plan that is accepted.
+/// Writes 1 where a plan, two numbers a window, is accepted.
 pub fn check_plan(
     intervals: &[u64],
     proved: &[u64],
     most: u64,
-    windows: &[u64],
+    plan: &[u64],
     yes: &mut u32,
 ) -> u64 {
     // SAFETY: as above
@@ -579,8 +579,8 @@ pub fn check_plan(
             proved.as_ptr(),
             proved.len(),
             most,
-            windows.as_ptr(),
-            windows.len(),
+            plan.as_ptr(),
+            plan.len(),
             yes,
         )
     }

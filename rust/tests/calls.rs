@@ -319,6 +319,26 @@ fn a_plan_of_missing_rows() {
 }
 
 #[test]
+fn plans_of_many_windows() {
+    // one window for each interval, and no row more
+    let rows = [0, 10, 20].map(|start| start..start + 1);
+    let apart = PositionIntervals::from_ranges(&rows).unwrap();
+    let plan = apart.plan_refetch(&[], 5, usize::MAX).unwrap();
+    assert_eq!(plan.windows().collect::<Vec<_>>(), rows);
+    // about as many as memory is taken for at first, and many more
+    for count in [4_095, 4_096, 4_097, 100_000] {
+        let covered = PositionIntervals::from_ranges(&[0..count]).unwrap();
+        let each: Vec<_> = (0..count).map(|row| row..row + 1).collect();
+        for room in [count as usize, usize::MAX] {
+            let plan = covered.plan_refetch(&[], 1, room).unwrap();
+            assert_eq!(plan, RefetchPlan::from_windows(&each));
+        }
+        let short = covered.plan_refetch(&[], 1, count as usize - 1);
+        assert_eq!(short.unwrap_err().reason(), Reason::NoRoom);
+    }
+}
+
+#[test]
 fn plans_that_are_not_accepted() {
     let (covered, proved, most) = refetched();
     let accepted = |windows: &[_]| {

@@ -34,14 +34,14 @@ pub extern "C" fn fernsponge_check_plan(
     intervals: &[u64],
     proved: &[u64],
     most: u64,
-    windows: &[u64],
+    plan: &[u64],
     yes: &mut u32,
 ) -> u64
-    ensures { λ r. ⌜ r ≡ returned (checkAnswer (now (intervals .entry)) (now (proved .entry)) most (now (windows .entry))) ⌝ }
-    ensures { λ _. ⌜ now (yes .exit) ≡ left boolNumber (checkAnswer (now (intervals .entry)) (now (proved .entry)) most (now (windows .entry))) (now (yes .entry)) ⌝ }
+    ensures { λ r. ⌜ r ≡ returned (checkAnswer (now (intervals .entry)) (now (proved .entry)) most (now (plan .entry))) ⌝ }
+    ensures { λ _. ⌜ now (yes .exit) ≡ left boolNumber (checkAnswer (now (intervals .entry)) (now (proved .entry)) most (now (plan .entry))) (now (yes .entry)) ⌝ }
 {
     give_yes(
-        position_plan::judge::check_plan(intervals, proved, RowCount(most), windows),
+        position_plan::judge::check_plan(intervals, proved, RowCount(most), plan),
         yes,
     )
 }

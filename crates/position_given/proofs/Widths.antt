@@ -84,6 +84,28 @@ nonempty-at ws (suc k) i j lo a h l = elim (ℕ-discrete j i) [
   | no e ↦ nonempty-at ws k (suc i) j (suc (finish ws i)) (a .2) (elim (decLt i j) [ yes u ↦ u | no u ↦ absurd (e (omega arith)) ]) (omega arith)
 ]
 
+-- pairs stand in order: each starts at or after lo, and past the ends of those before it
+
+starts-from : (ws : List ℕ) (n i j lo : ℕ) → Apart lo (pairsFrom ws i n) → i ≤ j → j < i + n → lo ≤ start ws j
+unfolding pairsFrom
+starts-from ws zero i j lo a h l = absurd (omega arith)
+starts-from ws (suc n) i j lo a h l = elim (ℕ-discrete j i) [
+  | yes e ↦ rw e (a .0)
+  | no e ↦
+      let up : i < j = elim (decLt i j) [ yes u ↦ u | no u ↦ absurd (e (omega arith)) ] in
+      omega (arith, a .0, a .1, starts-from ws n (suc i) j (suc (finish ws i)) (a .2) up (omega arith))
+]
+
+pub ends-before : (ws : List ℕ) (n i j k lo : ℕ) → Apart lo (pairsFrom ws i n) → i ≤ j → j < k → k < i + n → finish ws j < start ws k
+unfolding pairsFrom
+ends-before ws zero i j k lo a h l m = absurd (omega arith)
+ends-before ws (suc n) i j k lo a h l m = elim (ℕ-discrete j i) [
+  | yes e ↦ rw e (starts-from ws n (suc i) k (suc (finish ws i)) (a .2) (omega arith) (omega arith))
+  | no e ↦
+      let up : i < j = elim (decLt i j) [ yes u ↦ u | no u ↦ absurd (e (omega arith)) ] in
+      ends-before ws n (suc i) j k (suc (finish ws i)) (a .2) up l (omega arith)
+]
+
 -- ---- whether there is none
 
 pub none-covered : (ws : List ℕ) → Sound ws → eqb (length ws) 0 ≡ eqb (length (positionsOf (intervalsOf ws))) 0

@@ -201,11 +201,16 @@ in-at [] k h = absurd (omega arith)
 in-at (p ∷ L) zero h = in-head p L
 in-at (p ∷ L) (suc k) h = in-later p (getD L k 0) L (in-at L k (omega arith))
 
-pub ascends-next : (lo : ℕ) (L : List ℕ) (k : ℕ) → Ascends lo L → suc k < length L → getD L k 0 < getD L (suc k) 0
-ascends-next lo [] k a h = absurd (omega arith)
-ascends-next lo (p ∷ []) k a h = absurd (omega arith)
-ascends-next lo (p ∷ q ∷ L) zero a h = a .1 .0
-ascends-next lo (p ∷ q ∷ L) (suc k) a h = ascends-next (suc p) (q ∷ L) k (a .1) (omega arith)
+ascends-from : (lo : ℕ) (L : List ℕ) (k : ℕ) → Ascends lo L → k < length L → lo ≤ getD L k 0
+ascends-from lo [] k a h = absurd (omega arith)
+ascends-from lo (p ∷ L) zero a h = a .0
+ascends-from lo (p ∷ L) (suc k) a h = omega (arith, a .0, ascends-from (suc p) L k (a .1) (omega arith))
+
+pub ascends-at : (lo : ℕ) (L : List ℕ) (j k : ℕ) → Ascends lo L → j < k → k < length L → getD L j 0 < getD L k 0
+ascends-at lo [] j k a l h = absurd (omega arith)
+ascends-at lo (p ∷ L) j zero a l h = absurd (omega arith)
+ascends-at lo (p ∷ L) zero (suc k) a l h = ascends-from (suc p) L k (a .1) (omega arith)
+ascends-at lo (p ∷ L) (suc j) (suc k) a l h = ascends-at (suc p) L j k (a .1) (omega arith) (omega arith)
 
 -- a number above those before index j, and below the one there, is not in the list
 pub in-gap : (lo : ℕ) (L : List ℕ) (j p : ℕ) → Ascends lo L → ((k : ℕ) → k < j → getD L k 0 < p) → (j < length L → p < getD L j 0)

@@ -197,7 +197,3 @@ pub plan-fewest : (W : ℕ) (M : List ℕ) (Q : List Interval) → 0 < W → Asc
 plan-fewest W M Q w a n c =
     rw (← opens-length (plan W M))
     (spaced-few W Q (opens (plan W M)) n (plan-spaced W M) (λ p h. c p (opens-in M (plan W M) (plan-good W M w a .begin) p h)))
-
--- so no accepted plan has fewer windows
-pub good-fewest : (W : ℕ) (M : List ℕ) (Q : List Interval) → 0 < W → Ascends 0 M → GoodPlan W M Q → length (plan W M) ≤ length Q
-good-fewest W M Q w a c = plan-fewest W M Q w a (c .narrow) (c .contain)

@@ -9,7 +9,7 @@ use native.Mathlib.Decide.{decLt}
 use native.Mathlib.Omega.{arith}
 use lib.ListN.{length, take, drop}
 use lib.Seq.{sets-eq, take-at}
-use borrow.Author.Tests.{le-leb, eq-eqb, lt-ltb}
+use borrow.Author.Tests.{le-leb, eq-eqb, lt-ltb, le-ltb}
 use Rattle.intervals.specs.Intervals.{Interval, Above, holds}
 use Rattle.intervals.proofs.Laws.{All}
 use Rattle.item_check.specs.Checks.{Answer, answered, refused, accepted}
@@ -33,6 +33,7 @@ use Rattle.position_plan.proofs.Search.{missing-is}
 use Rattle.position_plan.proofs.Greedy.{plan-good, plan-fewest}
 use Rattle.position_plan.proofs.Opening.{rows-ascend}
 use Rattle.position_plan.proofs.Known.{plan-known}
+use Rattle.position_plan.proofs.Room.{planned-room}
 pub use Rattle.position_plan.proofs.Good.{GoodPlan}
 use Rattle.position_plan.proofs.Turns.{planned-one}
 pub use Rattle.position_plan.proofs.Turns.{lastOf, plan-window}
@@ -59,6 +60,12 @@ module _ (ws P : List ℕ) (W : ℕ) (K : Plannable ws P W) where
   -- so no accepted plan for the same rows and W has fewer windows
   pub accepted-fewest : (Q : List Interval) → accepts W (missing (intervalsOf ws) P) Q ≡ true → length (planOf W ws P) ≤ length Q
   accepted-fewest Q h = let G = accepts-good W (missing (intervalsOf ws) P) Q h in planned-fewest Q (G .narrow) (G .contain)
+
+-- room for so many windows is always enough: where nothing is refused before, the plan is answered
+pub planned-answers : (ws P : List ℕ) (W room : ℕ) → planVerdict ws P W ≡ accepted → length (positionsOf (intervalsOf ws)) / W + length ws / 2 ≤ room
+    → planAnswer ws P W room ≡ answered (planOf W ws P)
+planned-answers ws P W room h l =
+    rw (h, le-ltb room (length (planOf W ws P)) (omega (arith, planned-room ws P W (plan-known ws P W h))))
 
 -- no window is planned exactly if no row is missing
 pub planned-none : (W : ℕ) (M : List ℕ) → plan W M ≡ [] ↔ M ≡ []

@@ -3,6 +3,7 @@ pub mod Good
 pub mod Greedy
 pub mod Turns
 pub mod Search
+pub mod Back
 pub mod Opening
 pub mod Passes
 pub mod Room

@@ -1,13 +1,11 @@
--- A window that is open: it takes the runs within its reach, and closes. Assumes nothing.
-use Prim.Native.Nat.{ℕ, suc, _+_, _/_, _≤_, _<_, min}
+-- What the planner's searches start from, and the window that opens at a run. Assumes nothing.
+use Prim.Native.Nat.{ℕ, suc, _+_, _-_, _/_, _≤_, _<_, min}
 use mathlib.Core.Path.{_≡_, refl, sym, ap, _∙_}
-use mathlib.Core.Bool.{Bool, true, false, not, _&&_, false≢true}
+use mathlib.Core.Bool.{Bool, true, false, not, _&&_, true≢false, false≢true}
 use mathlib.Core.List.{List, [], _∷_}
 use native.Mathlib.Decide.{decLt}
 use native.Mathlib.Omega.{arith}
 use lib.ListN.{length}
-use lib.Dec.{ltb}
-use borrow.Author.Tests.{ltb-true, ltb-false, lt-ltb}
 use Rattle.intervals.specs.Intervals.{Interval, holds}
 use Rattle.position_given.specs.Given.{intervalsOf}
 use Rattle.position_given.specs.Inner.{Ascends, lastWord}
@@ -15,10 +13,11 @@ use Rattle.position_given.proofs.Widths.{Words, ends-of, ends-held}
 use Rattle.position_mismatch.specs.Reports.{isIn, missing}
 use Rattle.position_mismatch.proofs.Laws.{missing-ascends}
 use Rattle.position_plan.specs.declared.runs.Run.{Run}
-use Rattle.position_plan.specs.Plans.{planFrom, plan, planOf}
-use Rattle.position_plan.specs.Inner.{isMissing, Behind, Searchable, AtRun, NextRun, Plannable, Opens, NextWindow, cutAt, leftFrom, windowsFrom}
+use Rattle.position_plan.specs.Plans.{plan, planOf}
+use Rattle.position_plan.specs.Inner.{isMissing, Behind, Searchable, Ahead, Backable, AtRun, NextRun, LastRow}
+use Rattle.position_plan.specs.Inner.{Plannable, Opens, NextWindow, cutAt, leftFrom, windowsFrom}
 use Rattle.position_plan.proofs.Search.{missing-is}
-use Rattle.position_plan.proofs.Turns.{left-all, left-skip, plan-none, plan-open, plan-more, plan-close, plan-next, planned-some}
+use Rattle.position_plan.proofs.Turns.{left-all, left-skip, plan-none, plan-close, plan-next}
 
 -- the same places serve a later row
 pub behind-le : {ws P : List ℕ} {i j x y : ℕ} → Behind ws P i j x → x ≤ y → Behind ws P i j y
@@ -56,6 +55,17 @@ module _ {ws P : List ℕ} {W : ℕ} (K : Plannable ws P W) where
     behind = behind-le (R .behind) h;
   }
 
+  -- a search goes back from a run, at a row that is no higher
+  pub search-back : {y x : ℕ} {r : Run} → NextRun ws P y r → x ≤ r .start → Backable ws P (r .pair) (r .seen) x
+  search-back F h = record {
+    sound = K .sound;
+    ascends = K .ascends;
+    ahead = record {
+      pairs = λ k a b. omega (arith, F .ahead .pairs k a b);
+      rows = λ k a b. omega (arith, F .ahead .rows k a b);
+    };
+  }
+
   -- the windows from the first run on are all
   pub windows-all : {r : Run} → NextRun ws P 0 r → windowsFrom W ws P (r .start) ≡ planOf W ws P
   windows-all {r} F = ap (plan W) (sym (left-skip M rows-ascend 0 (r .start) (omega arith) (F .skipped)) ∙ left-all M rows-ascend)
@@ -65,29 +75,9 @@ module _ {ws P : List ℕ} {W : ℕ} (K : Plannable ws P W) where
     windows-none h = plan-none W M rows-ascend (r .start) (R .none h)
 
     pub windows-some : r .start < r .end → 0 < length (windowsFrom W ws P (r .start))
-    windows-some h = planned-some W M rows-ascend (r .start) (K .wide) (R .all (r .start) (omega arith) h)
+    windows-some h = omega (arith, plan-next W M rows-ascend (r .start) (K .wide) (R .all (r .start) (omega arith) h))
 
--- ---- a window that is open
-
--- what is asked of a run from a to b: that it has a row, and starts below the limit
-
-pub is-near : (a b limit : ℕ) → ltb a b && ltb a limit ≡ true → (a < b) × (a < limit)
-is-near a b limit h = go (ltb a b) refl h
-  where
-    go : (t : Bool) → ltb a b ≡ t → t && ltb a limit ≡ true → (a < b) × (a < limit)
-    go true p q = (ltb-true a b p, ltb-true a limit q)
-    go false p q = absurd (false≢true q)
-
-pub is-far : (a b limit : ℕ) → ltb a b && ltb a limit ≡ false → a < b → limit ≤ a
-is-far a b limit h l = ltb-false a limit (sym (ap (λ (t : Bool). t && ltb a limit) (lt-ltb a b l)) ∙ h)
-
--- it begins at s, has no row from e on and reaches no further than limit; the missing rows go on with a run
-pub record Open (ws P : List ℕ) (W s limit e : ℕ) (r : Run) : Type 0 where
-  pub left : windowsFrom W ws P s ≡ planFrom W s e (leftFrom e (missing (intervalsOf ws) P))
-  pub after : e ≤ r .start
-  pub skipped : (p : ℕ) → e ≤ p → p < r .start → isMissing ws P p ≡ false
-  pub run : AtRun ws P r
-  pub within : e ≤ limit
+-- ---- a window that opens at a run
 
 module _ {ws P : List ℕ} {W : ℕ} (U : Words ws) {first : Run} (O : Opens ws P W first) {limit : ℕ} (is-limit : limit ≡ min (first .start + W) lastWord) where
   abbrev s : ℕ
@@ -118,52 +108,57 @@ module _ {ws P : List ℕ} {W : ℕ} (U : Words ws) {first : Run} (O : Opens ws 
       on : leftFrom (s + W) rows ≡ leftFrom (next .start) rows
       on = sym (left-skip rows up limit (s + W) (omega arith) far) ∙ left-skip rows up limit (next .start) (F .after) (F .skipped)
 
-  pub open-start : Open ws P W s limit s first
-  open-start = record {
-    left = plan-open W rows up s (O .plannable .wide) here;
-    after = omega arith;
-    skipped = λ p a b. absurd (omega arith);
-    run = O .run;
-    within = omega (arith, missing-low ws P U s here);
+  -- it closes at the last missing row below the limit, and the missing rows go on with the next run
+  pub window-closes : {e : ℕ} → LastRow ws P limit e → {next : Run} → limit ≤ next .start
+      → ((p : ℕ) → limit ≤ p → p < next .start → isMissing ws P p ≡ false) → AtRun ws P next → NextWindow ws P W first (record { end = e; next = next })
+  window-closes {e} E {next} after skipped R = record {
+    one = plan-close W rows up s e here opens (omega (arith, E .within)) (E .here (omega (arith, opens))) none
+        ∙ ap (λ (L : List ℕ). (s, e) ∷ plan W L) (sym (left-skip rows up limit (s + W) (omega arith) far) ∙ left-skip rows up limit (next .start) after skipped);
+    next = R;
   }
+    where
+      within : s < limit
+      within = omega (arith, missing-low ws P U s here, O .plannable .wide)
 
-  module _ {e : ℕ} {r : Run} (N : Open ws P W s limit e r) where
-    -- it takes the run
-    pub open-more : r .start < r .end → r .end ≤ limit → {next : Run} → NextRun ws P (r .end) next → Open ws P W s limit (r .end) next
-    open-more h k F = record {
-      left = N .left ∙ plan-more W rows up s e (r .start) (r .end) (N .after) (N .skipped) h (omega arith) (N .run .all);
-      after = F .after;
-      skipped = F .skipped;
-      run = F .run;
-      within = k;
-    }
+      opens : s < e
+      opens = elim (decLt s e) [
+        | yes u ↦ u
+        | no u ↦ absurd (true≢false (sym here ∙ E .none s (omega arith) within))
+      ]
 
-    -- it takes the rows of the run below the limit, and closes there
-    pub open-cut : r .start < limit → limit < r .end → NextWindow ws P W first (cutAt r limit)
-    open-cut h k = record {
-      one = N .left
-          ∙ plan-more W rows up s e (r .start) limit (N .after) (N .skipped) h (omega arith) (λ p a b. N .run .all p a (omega arith))
-          ∙ plan-close W rows up s limit far;
-      next = record {
-        all = λ p a b. N .run .all p (omega arith) b;
-        none = λ l p a. absurd (omega arith);
-        behind = behind-le (N .run .behind) (omega arith);
-      };
-    }
+      none : (p : ℕ) → e ≤ p → p < s + W → isMissing ws P p ≡ false
+      none p a b = elim (decLt p limit) [ yes u ↦ E .none p a u | no u ↦ far p (omega arith) b ]
 
-    -- no run within its reach is left
-    pub open-close : (r .start < r .end → limit ≤ r .start) → NextWindow ws P W first (record { end = e; next = r })
-    open-close h = record {
-      one = N .left ∙ plan-close W rows up s e none
-          ∙ ap (λ (L : List ℕ). (s, e) ∷ plan W L) (left-skip rows up e (r .start) (N .after) (N .skipped));
-      next = N .run;
-    }
-      where
-        none : (p : ℕ) → e ≤ p → p < s + W → isMissing ws P p ≡ false
-        none p a b = elim (decLt p (r .start)) [
-          | yes u ↦ N .skipped p a u
-          | no u ↦ elim (decLt (r .start) (r .end)) [
-            | yes v ↦ far p (omega (arith, h v)) b
-            | no v ↦ N .run .none (omega arith) p (omega arith)
-          ]
-        ]
+  -- the limit is within the run: it closes there, and the rest of the run is left
+  pub window-cut : limit < first .end → NextWindow ws P W first (cutAt first limit)
+  window-cut h = window-closes last (omega arith) (λ p a b. absurd (omega arith)) (record {
+    all = λ p a b. O .run .all p (omega (arith, low)) b;
+    none = λ l p a. absurd (omega arith);
+    behind = behind-le (O .run .behind) (omega (arith, low));
+  })
+    where
+      low : s < limit
+      low = omega (arith, missing-low ws P U s here, O .plannable .wide)
+
+      last : LastRow ws P limit limit
+      last = record {
+        within = omega arith;
+        here = λ l. O .run .all (limit - 1) (omega (arith, low)) (omega arith);
+        none = λ p a b. absurd (omega arith);
+      }
+
+  -- no other run is within the limit: it has the first one alone
+  pub window-alone : first .end ≤ limit → {next : Run} → NextRun ws P (first .end) next → limit ≤ next .start
+      → NextWindow ws P W first (record { end = first .end; next = next })
+  window-alone h F l = window-closes last l (λ p a b. F .skipped p (omega arith) b) (F .run)
+    where
+      last : LastRow ws P limit (first .end)
+      last = record {
+        within = h;
+        here = λ u. O .run .all (first .end - 1) (omega (arith, O .some)) (omega (arith, O .some));
+        none = λ p a b. F .skipped p a (omega arith);
+      }
+
+  -- others are
+  pub window-found : {e : ℕ} → LastRow ws P limit e → {next : Run} → NextRun ws P limit next → NextWindow ws P W first (record { end = e; next = next })
+  window-found E F = window-closes E (F .after) (F .skipped) (F .run)

@@ -14,10 +14,10 @@ use Rattle.pairs_sort.specs.Pairs.{start, finish}
 use Rattle.position_given.specs.Given.{intervalsOf}
 use Rattle.position_given.specs.Positions.{positionsOf}
 use Rattle.position_given.specs.Inner.{Sound, Ascends}
-use Rattle.position_given.proofs.Widths.{nonempty-at}
+use Rattle.position_given.proofs.Widths.{nonempty-at, ends-before}
 use Rattle.position_given.proofs.Held.{held-at}
 use Rattle.position_mismatch.specs.Reports.{isIn, missing}
-use Rattle.position_mismatch.proofs.Positions.{in-keep, in-positions, in-at, in-gap, ascends-next}
+use Rattle.position_mismatch.proofs.Positions.{in-keep, in-positions, in-at, in-gap, ascends-at}
 use Rattle.position_plan.specs.declared.runs.Run.{Run}
 use Rattle.position_plan.specs.Inner.{isMissing, Behind, AtRun, NextRun, FirstFrom, GoesOn}
 
@@ -52,6 +52,13 @@ goes-further x e v h = elim (decLt x e) [
 pub goes-no-further : (x e v : ℕ) → not (ltb x e && eqb v x) ≡ true → x < e → v ≡ x → ⊥
 goes-no-further x e v h l q = false≢true (sym (rw (lt-ltb x e l, eq-eqb v x q)) ∙ h)
 
+-- a position at or above x, and those after it
+pub from-index : (P : List ℕ) → Ascends 0 P → (x j : ℕ) → (j < length P → x ≤ getD P j 0) → (k : ℕ) → j ≤ k → k < length P → x ≤ getD P k 0
+from-index P A x j f k u v = elim (decLt j k) [
+  | yes l ↦ omega (arith, f (omega arith), ascends-at 0 P j k A l v)
+  | no l ↦ let q : j ≡ k = omega arith in rw q at (f (omega arith))
+]
+
 -- ---- a turn of the search
 
 -- the pairs before i, and the proved positions before j, are below x, and no row from `from` on, below x, is missing
@@ -65,16 +72,20 @@ searched-start B = record { after = omega arith; none = λ p a b. absurd (omega 
 
 module _ {ws P : List ℕ} (S : Sound ws) (A : Ascends 0 P) {from i j x : ℕ} (N : Searched ws P from i j x) where
   -- no pair is left
-  pub searched-end : length ws / 2 ≤ i → NextRun ws P from (record { start = x; end = x; pair = i; seen = j })
-  searched-end h = record {
+  pub searched-end : length ws / 2 ≤ i → {j′ : ℕ} → FirstFrom P j x j′ → NextRun ws P from (record { start = x; end = x; pair = i; seen = j′ })
+  searched-end h {j′} F = record {
     after = N .after;
     skipped = N .none;
     run = record {
       all = λ p a b. absurd (omega arith);
       none = λ l p a. missing-is ws P p
           ∙ rw (held-at ws i p (S .canonical) (λ m u. omega (arith, N .behind .pairs m u)) (λ u. absurd (omega arith)), le-ltb i (length ws / 2) h);
-      behind = N .behind;
+      behind = record {
+        pairs = N .behind .pairs;
+        rows = λ k l. elim (decLt k j) [ yes u ↦ N .behind .rows k u | no u ↦ F .passed k (omega arith) l ];
+      };
     };
+    ahead = record { pairs = λ k u v. absurd (omega arith); rows = from-index P A x j′ (F .found) };
   }
 
   module _ (h : i < length ws / 2) {s at j′ : ℕ} (is-s : s ≡ max (start ws i) x) (F : FirstFrom P j s at) (G : GoesOn P at s (finish ws i) j′) where
@@ -153,8 +164,7 @@ module _ {ws P : List ℕ} (S : Sound ws) (A : Ascends 0 P) {from i j x : ℕ} (
           at-least : y ≤ getD P j′ 0
           at-least = elim (decLt at j′) [
             | yes v ↦
-                let q : suc (j′ - 1) ≡ j′ = omega arith in
-                let up : getD P (j′ - 1) 0 < getD P j′ 0 = rw q at (ascends-next 0 P (j′ - 1) A (omega arith)) in
+                let up = ascends-at 0 P (j′ - 1) j′ A (omega arith) u in
                 omega (arith, up, G .rows (j′ - 1) (omega arith) (omega arith) .1)
             | no v ↦
                 let q : at ≡ j′ = omega (arith, G .after) in
@@ -178,6 +188,10 @@ module _ {ws P : List ℕ} (S : Sound ws) (A : Ascends 0 P) {from i j x : ℕ} (
               ∙ rw (covered p (omega arith) (omega (arith, stop-between)), le-leb (start ws i) p (omega arith), unproved p a b);
           none = λ u p a. absurd (omega (arith, stop-between));
           behind = record { pairs = λ k u. omega (arith, N .behind .pairs k u); rows = rows-below };
+        };
+        ahead = record {
+          pairs = λ k u v. omega (arith, ends-before ws (length ws / 2) 0 i k 0 (S .canonical) (omega arith) u (omega arith));
+          rows = from-index P A y j′ (λ u. omega (arith, next-past u));
         };
       }
         where

@@ -1,21 +1,19 @@
--- Our plan, a run of missing rows at a time. M has the missing rows. Assumes nothing.
-use Prim.Native.Nat.{ℕ, zero, suc, _+_, _-_, _≤_, _<_}
+-- Our plan, a window at a time. M has the missing rows. Assumes nothing.
+use Prim.Native.Nat.{ℕ, suc, _+_, _-_, _≤_, _<_}
 use mathlib.Core.Path.{_≡_, refl, sym, ap, _∙_}
-use mathlib.Core.Bool.{Bool, true, false, _&&_, _||_, and-false, and-true, false≢true, true≢false}
-use mathlib.Core.List.{List, [], _∷_, _++_}
-use native.Mathlib.Decide.{decLt}
+use mathlib.Core.Logic.{_⊎_, inl, inr}
+use mathlib.Core.Bool.{Bool, true, false, _&&_, and-false, and-true, false≢true, true≢false}
+use mathlib.Core.List.{List, [], _∷_}
+use native.Mathlib.Decide.{decLt, ℕ-discrete}
 use native.Mathlib.Omega.{arith}
 use lib.ListN.{length}
 use lib.Dec.{leb, ltb}
 use borrow.Author.Tests.{lt-ltb, le-ltb, le-leb, lt-leb}
 use Rattle.intervals.specs.Lists.{keep}
-use Rattle.intervals.specs.Intervals.{inside}
-use Rattle.intervals.proofs.Members.{below, in-it, past, where-is, inside-yes, inside-below, inside-past}
-use Rattle.position_given.specs.Positions.{countUp}
 use Rattle.position_given.specs.Inner.{Ascends}
 use Rattle.position_mismatch.specs.Reports.{isIn}
-use Rattle.position_mismatch.proofs.Positions.{in-append, in-between, in-keep, in-head, in-below, keep-same, keep-keep, keep-none}
-use Rattle.position_mismatch.proofs.Positions.{ascends-keep, ascends-append, ascends-count, ascends-raise, ascends-unique}
+use Rattle.position_mismatch.proofs.Positions.{in-keep, in-head, in-tail, in-later, in-below, keep-same, keep-keep, keep-none}
+use Rattle.position_mismatch.proofs.Positions.{ascends-keep, ascends-raise, ascends-unique}
 use Rattle.position_plan.specs.Plans.{planFrom, plan}
 use Rattle.position_plan.specs.Inner.{leftFrom}
 
@@ -59,56 +57,35 @@ module _ (M : List ℕ) (A : Ascends 0 M) where
         ]
       ]
 
-  -- each row from a on, below b, is missing: these rows, and what is left after them
-  pub left-run : (a b : ℕ) → a ≤ b → ((p : ℕ) → a ≤ p → p < b → isIn M p ≡ true) → leftFrom a M ≡ countUp a (b - a) ++ leftFrom b M
-  left-run a b l h =
-      ascends-unique a a (leftFrom a M) (countUp a (b - a) ++ leftFrom b M) (left-ascends a)
-      (ascends-append a b (countUp a (b - a)) (leftFrom b M) l (ascends-count a (b - a)) (λ p e. under p (sym (in-between a b p) ∙ e)) (left-ascends b))
-      (λ p. in-left a p ∙ sym (in-append (countUp a (b - a)) (leftFrom b M) p ∙ rw (in-between a b p, in-left b p) (sym (same p))))
+  -- the missing row s is the first of those from it on
+  pub left-first : (s : ℕ) → isIn M s ≡ true → leftFrom s M ≡ s ∷ leftFrom (suc s) M
+  left-first s h =
+      ascends-unique s s (leftFrom s M) (s ∷ leftFrom (suc s) M) (left-ascends s) (omega arith, left-ascends (suc s)) (λ p. in-left s p ∙ same p)
     where
-      under : (p : ℕ) → inside a b p ≡ true → p < b
-      under p h = elim (decLt p b) [ yes k ↦ k | no k ↦ absurd (true≢false (sym h ∙ inside-past a b p (omega arith))) ]
-
-      same : (p : ℕ) → isIn M p && leb a p ≡ inside a b p || (isIn M p && leb b p)
-      same p = elim (where-is a b p) [
-        | below u ↦ rw (inside-below a b p u, lt-leb a p u, lt-leb b p (omega arith))
-        | in-it u v ↦ rw (inside-yes a b p u v, h p u v, le-leb a p u)
-        | past u ↦ rw (inside-past a b p u, le-leb a p (omega arith), le-leb b p u)
+      same : (p : ℕ) → isIn M p && leb s p ≡ isIn (s ∷ leftFrom (suc s) M) p
+      same p = elim (ℕ-discrete p s) [
+        | yes e ↦ rw (e, h, le-leb s s (omega arith)) (sym (in-head s (leftFrom (suc s) M)))
+        | no e ↦ sym (in-tail s p (leftFrom (suc s) M) e ∙ in-left (suc s) p ∙ ap (λ (t : Bool). isIn M p && t) (next p e))
       ]
+        where
+          next : (p : ℕ) → (p ≡ s → ⊥) → leb (suc s) p ≡ leb s p
+          next p e = elim (decLt p s) [
+            | yes l ↦ rw (lt-leb s p l, lt-leb (suc s) p (omega arith))
+            | no l ↦
+                let up : suc s ≤ p = elim (decLt s p) [ yes u ↦ u | no u ↦ absurd (e (omega arith)) ] in
+                rw (le-leb s p (omega arith), le-leb (suc s) p up)
+          ]
 
--- ---- a window and a run
-
--- the open window takes a run that is within its reach
-take-run : (W s a k : ℕ) (L : List ℕ) → a + k ≤ s + W → planFrom W s a (countUp a k ++ L) ≡ planFrom W s (a + k) L
-unfolding planFrom countUp
-take-run W s a zero L h = let q : a + 0 ≡ a = omega arith in rw q
-take-run W s a (suc k) L h =
-    let q : a + suc k ≡ suc a + k = omega arith in
-    rw (lt-ltb a (s + W) (omega arith), q) (take-run W s (suc a) k L (omega arith))
-
-take-some : (W s e a t : ℕ) (L : List ℕ) → a < t → t ≤ s + W → planFrom W s e (countUp a (t - a) ++ L) ≡ planFrom W s t L
-unfolding planFrom countUp
-take-some W s e a t L h k =
-    let q : t - a ≡ suc (t - suc a) = omega arith in
-    let z : suc a + (t - suc a) ≡ t = omega arith in
-    rw (q, lt-ltb a (s + W) (omega arith)) (take-run W s (suc a) (t - suc a) L (omega arith) ∙ ap (λ (n : ℕ). planFrom W s n L) z)
-
-some-window : (W s e : ℕ) (L : List ℕ) → 0 < length (planFrom W s e L)
-unfolding planFrom
-some-window W s e [] = omega arith
-some-window W s e (p ∷ L) = elim (decLt p (s + W)) [
-  | yes k ↦ rw (lt-ltb p (s + W) k) (some-window W s (suc p) L)
-  | no k ↦ rw (le-ltb p (s + W) (omega arith)) (omega arith)
-]
-
-pub planned-one : (W p : ℕ) (M : List ℕ) → 0 < length (plan W (p ∷ M))
-unfolding plan
-planned-one W p M = some-window W p (suc p) M
-
-close-far : (W s e : ℕ) (L : List ℕ) → ((p : ℕ) → isIn L p ≡ true → s + W ≤ p) → planFrom W s e L ≡ (s, e) ∷ plan W L
-unfolding planFrom plan
-close-far W s e [] h = refl
-close-far W s e (p ∷ L) h = rw (le-ltb p (s + W) (h p (in-head p L)))
+  -- of those past row s, the ones past the reach of a window that opens there
+  pub past-reach : (W s : ℕ) → 0 < W → keep (leb (s + W)) (leftFrom (suc s) M) ≡ leftFrom (s + W) M
+  unfolding leftFrom
+  past-reach W s w = keep-keep (leb (s + W)) (leb (suc s)) M ∙ keep-same (λ p. leb (suc s) p && leb (s + W) p) (leb (s + W)) M (λ p v. beyond p)
+    where
+      beyond : (p : ℕ) → leb (suc s) p && leb (s + W) p ≡ leb (s + W) p
+      beyond p = elim (decLt p (s + W)) [
+        | yes u ↦ rw (lt-leb (s + W) p u, and-false)
+        | no u ↦ rw (le-leb (s + W) p (omega arith), le-leb (suc s) p (omega arith))
+      ]
 
 -- ---- a window by itself
 
@@ -144,11 +121,34 @@ window-from W s d lo (p ∷ L) a = elim (decLt p (s + W)) [
   | no h ↦ rw (le-ltb p (s + W) (omega arith), le-leb (s + W) p (omega arith), left-out (s + W) (suc p) (omega arith) L (a .1), kept (s + W) (suc p) (omega arith) L (a .1))
 ]
 
+some-window : (W s e : ℕ) (L : List ℕ) → 0 < length (planFrom W s e L)
+unfolding planFrom
+some-window W s e [] = omega arith
+some-window W s e (p ∷ L) = elim (decLt p (s + W)) [
+  | yes k ↦ rw (lt-ltb p (s + W) k) (some-window W s (suc p) L)
+  | no k ↦ rw (le-ltb p (s + W) (omega arith)) (omega arith)
+]
+
+-- where a row is missing there is a window
+pub planned-one : (W p : ℕ) (M : List ℕ) → 0 < length (plan W (p ∷ M))
+unfolding plan
+planned-one W p M = some-window W p (suc p) M
+
 -- 02 §9.7: our planner opens a window at the first missing row p, and closes it at the last one within W; it goes on with those past its reach
 pub plan-window : (W p lo : ℕ) (M : List ℕ) → Ascends lo (p ∷ M)
     → plan W (p ∷ M) ≡ (p, suc (lastOf p (keep (λ q. ltb q (p + W)) M))) ∷ plan W (keep (leb (p + W)) M)
 unfolding plan
 plan-window W p lo M a = window-from W p p (suc p) M (a .1)
+
+-- the last number of an ascending list that has none above it
+last-is : (d z : ℕ) (L : List ℕ) → Ascends (suc d) L → (z ≡ d) ⊎ (isIn L z ≡ true) → ((p : ℕ) → isIn L p ≡ true → p ≤ z) → lastOf d L ≡ z
+last-is d z [] a (inl e) h = omega arith
+last-is d z [] a (inr e) h = absurd (false≢true (unfold isIn in e))
+last-is d z (p ∷ L) a (inl e) h = absurd (omega (arith, a .0, h p (in-head p L)))
+last-is d z (p ∷ L) a (inr e) h = last-is p z L (a .1) next (λ q k. h q (in-later p q L k))
+  where
+    next : (z ≡ p) ⊎ (isIn L z ≡ true)
+    next = elim (ℕ-discrete z p) [ yes q ↦ inl q | no q ↦ inr (sym (in-tail p z L q) ∙ e) ]
 
 -- ---- turns
 
@@ -158,54 +158,41 @@ module _ (W : ℕ) (M : List ℕ) (A : Ascends 0 M) where
   unfolding plan
   plan-none x h = rw (left-none M A x h)
 
-  -- the missing row s is the first of those from it on
-  left-first : (s : ℕ) → isIn M s ≡ true → leftFrom s M ≡ s ∷ leftFrom (suc s) M
-  unfolding countUp
-  left-first s h =
-      let one : suc s - s ≡ 1 = omega arith in
-      left-run M A s (suc s) (omega arith) (λ p a b. let q : p ≡ s = omega arith in rw q h) ∙ ap (λ (k : ℕ). countUp s k ++ leftFrom (suc s) M) one
-
-  -- a window opens at the missing row s; it has no row yet
-  pub plan-open : (s : ℕ) → 0 < W → isIn M s ≡ true → plan W (leftFrom s M) ≡ planFrom W s s (leftFrom s M)
-  unfolding plan planFrom
-  plan-open s w h = rw (left-first s h, lt-ltb s (s + W) (omega arith))
-
-  -- the open window takes the missing rows from a on, below t, before which none is missing
-  pub plan-more : (s e a t : ℕ) → e ≤ a → ((p : ℕ) → e ≤ p → p < a → isIn M p ≡ false)
-      → a < t → t ≤ s + W → ((p : ℕ) → a ≤ p → p < t → isIn M p ≡ true)
-      → planFrom W s e (leftFrom e M) ≡ planFrom W s t (leftFrom t M)
-  plan-more s e a t l n h k r =
-      ap (planFrom W s e) (left-skip M A e a l n ∙ left-run M A a t (omega arith) r) ∙ take-some W s e a t (leftFrom t M) h k
-
-  -- the open window closes where no further missing row is within its reach
-  pub plan-close : (s e : ℕ) → ((p : ℕ) → e ≤ p → p < s + W → isIn M p ≡ false)
-      → planFrom W s e (leftFrom e M) ≡ (s, e) ∷ plan W (leftFrom e M)
-  plan-close s e h = close-far W s e (leftFrom e M) (λ p k. far p (isIn M p) refl (sym (in-left M A e p) ∙ k))
-    where
-      far : (p : ℕ) (t : Bool) → isIn M p ≡ t → t && leb e p ≡ true → s + W ≤ p
-      far p false i k = absurd (false≢true k)
-      far p true i k = elim (decLt p (s + W)) [
-        | yes l ↦ elim (decLt p e) [
-          | yes m ↦ absurd (false≢true (sym (lt-leb e p m) ∙ k))
-          | no m ↦ absurd (true≢false (sym i ∙ h p (omega arith) l))
-        ]
-        | no l ↦ omega arith
-      ]
-
-  -- where a row is missing there is a window
-  pub planned-some : (s : ℕ) → 0 < W → isIn M s ≡ true → 0 < length (plan W (leftFrom s M))
-  planned-some s w h = rw (plan-open s w h) (some-window W s s (leftFrom s M))
-
   -- the next window opens at the first missing row past the reach of this one
   pub plan-next : (s : ℕ) → 0 < W → isIn M s ≡ true → length (plan W (leftFrom s M)) ≡ suc (length (plan W (leftFrom (s + W) M)))
   plan-next s w h =
-      let here = left-first s h in
-      let L : List ℕ = leftFrom (suc s) M in
-      ap (λ (l : List ℕ). length (plan W l)) here ∙ ap length (plan-window W s 0 L (omega arith, left-ascends M A (suc s)))
-      ∙ ap (λ (l : List ℕ). suc (length (plan W l))) past
+      ap (λ (L : List ℕ). length (plan W L)) (left-first M A s h)
+      ∙ ap length (plan-window W s 0 (leftFrom (suc s) M) (omega arith, left-ascends M A (suc s)))
+      ∙ ap (λ (L : List ℕ). suc (length (plan W L))) (past-reach M A W s w)
+
+  -- the window that opens at the missing row s ends behind the last missing row within W, before e; the next opens past its reach
+  pub plan-close : (s e : ℕ) → isIn M s ≡ true → s < e → e ≤ s + W → isIn M (e - 1) ≡ true → ((p : ℕ) → e ≤ p → p < s + W → isIn M p ≡ false)
+      → plan W (leftFrom s M) ≡ (s, e) ∷ plan W (leftFrom (s + W) M)
+  plan-close s e h l n d none =
+      let K : List ℕ = keep (λ q. ltb q (s + W)) (leftFrom (suc s) M) in
+      let up : Ascends (suc s) (leftFrom (suc s) M) = left-ascends M A (suc s) in
+      let end : suc (lastOf s K) ≡ e = omega (arith, last-is s (e - 1) K (ascends-keep (suc s) (λ q. ltb q (s + W)) (leftFrom (suc s) M) up) there (λ p k. most p k)) in
+      ap (plan W) (left-first M A s h) ∙ plan-window W s 0 (leftFrom (suc s) M) (omega arith, up)
+      ∙ ap (λ (k : ℕ). (s, k) ∷ plan W (keep (leb (s + W)) (leftFrom (suc s) M))) end
+      ∙ ap (λ (L : List ℕ). (s, e) ∷ plan W L) (past-reach M A W s (omega arith))
     where
-      past : keep (leb (s + W)) (leftFrom (suc s) M) ≡ leftFrom (s + W) M
-      past = unfold leftFrom in keep-keep (leb (s + W)) (leb (suc s)) M ∙ keep-same (λ p. leb (suc s) p && leb (s + W) p) (leb (s + W)) M (λ p e. elim (decLt p (s + W)) [
-        | yes l ↦ rw (lt-leb (s + W) p l, and-false)
-        | no l ↦ rw (le-leb (s + W) p (omega arith), le-leb (suc s) p (omega arith))
-      ])
+      in-K : (p : ℕ) → isIn (keep (λ q. ltb q (s + W)) (leftFrom (suc s) M)) p ≡ (isIn M p && leb (suc s) p) && ltb p (s + W)
+      in-K p = in-keep (λ q. ltb q (s + W)) (leftFrom (suc s) M) p ∙ ap (λ (t : Bool). t && ltb p (s + W)) (in-left M A (suc s) p)
+
+      there : (e - 1 ≡ s) ⊎ (isIn (keep (λ q. ltb q (s + W)) (leftFrom (suc s) M)) (e - 1) ≡ true)
+      there = elim (decLt s (e - 1)) [
+        | yes k ↦ inr (in-K (e - 1) ∙ rw (d, le-leb (suc s) (e - 1) k, lt-ltb (e - 1) (s + W) (omega arith)))
+        | no k ↦ inl (omega arith)
+      ]
+
+      most : (p : ℕ) → isIn (keep (λ q. ltb q (s + W)) (leftFrom (suc s) M)) p ≡ true → p ≤ e - 1
+      most p k = elim (decLt p e) [
+        | yes u ↦ omega arith
+        | no u ↦ absurd (false≢true (sym (off p (omega arith)) ∙ sym (in-K p) ∙ k))
+      ]
+        where
+          off : (p : ℕ) → e ≤ p → (isIn M p && leb (suc s) p) && ltb p (s + W) ≡ false
+          off p u = elim (decLt p (s + W)) [
+            | yes v ↦ rw (none p u v)
+            | no v ↦ rw (le-ltb p (s + W) (omega arith), and-false)
+          ]

@@ -10,7 +10,7 @@ use lib.Dec.{leb}
 use Rattle.intervals.specs.Lists.{keep}
 use Rattle.intervals.specs.Intervals.{Interval}
 use Rattle.item_check.specs.Checks.{Answer}
-use Rattle.pairs_sort.specs.Pairs.{finish, flatPairs}
+use Rattle.pairs_sort.specs.Pairs.{start, finish, flatPairs}
 use Rattle.position_given.specs.Given.{intervalsOf}
 use Rattle.position_given.specs.Positions.{positionsOf}
 use Rattle.position_given.specs.Inner.{Sound, Ascends}
@@ -36,6 +36,17 @@ pub record Searchable (ws proved : List ℕ) (i j x : ℕ) : Type 0 where
   pub ascends : Ascends 0 proved
   pub behind : Behind ws proved i j x
 
+-- the pairs past i, and the proved positions from j on, are at or above row x
+pub record Ahead (ws proved : List ℕ) (i j x : ℕ) : Type 0 where
+  pub pairs : (k : ℕ) → i < k → k < length ws / 2 → x ≤ start ws k
+  pub rows : (k : ℕ) → j ≤ k → k < length proved → x ≤ getD proved k 0
+
+-- a search back from row x, with the places where it starts
+pub record Backable (ws proved : List ℕ) (i j x : ℕ) : Type 0 where
+  pub sound : Sound ws
+  pub ascends : Ascends 0 proved
+  pub ahead : Ahead ws proved i j x
+
 -- a run of missing rows; where it has none, no row from its start on is missing
 pub record AtRun (ws proved : List ℕ) (r : Run) : Type 0 where
   pub all : (p : ℕ) → r .start ≤ p → p < r .end → isMissing ws proved p ≡ true
@@ -47,6 +58,13 @@ pub record NextRun (ws proved : List ℕ) (x : ℕ) (r : Run) : Type 0 where
   pub after : x ≤ r .start
   pub skipped : (p : ℕ) → x ≤ p → p < r .start → isMissing ws proved p ≡ false
   pub run : AtRun ws proved r
+  pub ahead : Ahead ws proved (r .pair) (r .seen) (r .start)
+
+-- the end r of the last missing row below row x, or 0
+pub record LastRow (ws proved : List ℕ) (x r : ℕ) : Type 0 where
+  pub within : r ≤ x
+  pub here : 0 < r → isMissing ws proved (r - 1) ≡ true
+  pub none : (p : ℕ) → r ≤ p → p < x → isMissing ws proved p ≡ false
 
 -- the first index, from i on, at which a list of numbers is at or above x
 pub record FirstFrom (l : List ℕ) (i x r : ℕ) : Type 0 where
@@ -60,6 +78,19 @@ pub record GoesOn (l : List ℕ) (i s e r : ℕ) : Type 0 where
   pub rows : (k : ℕ) → i ≤ k → k < r → (k < length l) × (getD l k 0 ≡ s + (k - i))
   pub below : i < r → s + (r - i) ≤ e
   pub stops : r < length l → s + (r - i) < e → getD l r 0 ≡ s + (r - i) → ⊥
+
+-- how many of the first numbers of a list there are up to the last one below x
+pub record LastBelow (l : List ℕ) (to x r : ℕ) : Type 0 where
+  pub before : r ≤ to
+  pub passed : (k : ℕ) → r ≤ k → k < to → x ≤ getD l k 0
+  pub found : 0 < r → getD l (r - 1) 0 < x
+
+-- the index from which on the numbers of a list, up to index to, are the rows just before e that are not before s
+pub record GoesBack (l : List ℕ) (to s e r : ℕ) : Type 0 where
+  pub before : r ≤ to
+  pub rows : (k : ℕ) → r ≤ k → k < to → getD l k 0 + (to - k) ≡ e
+  pub above : r < to → s + (to - r) ≤ e
+  pub stops : 0 < r → s + (to - r) < e → getD l (r - 1) 0 + 1 + (to - r) ≡ e → ⊥
 
 -- ---- the windows
 

@@ -47,7 +47,7 @@ accepts W M plan = ascending 0 plan && each (narrow W) plan && each (begins M) p
 -- ---- our planner
 
 -- 02 §9.7: the window that is open begins at s, and its last missing row so far is the one before e. It takes the next missing row p where that
--- is within W of its begin; else it closes, and the next one opens at p
+-- is one of the W rows from s on; else it closes, and the next one opens at p
 unfoldable pub planFrom : ℕ → ℕ → ℕ → List ℕ → List Interval
 planFrom W s e [] = (s, e) ∷ []
 planFrom W s e (p ∷ M) = cond (ltb p (s + W)) (planFrom W s (suc p) M) ((s, e) ∷ planFrom W p (suc p) M)

@@ -2,7 +2,7 @@
 // Definitions: specs/Plans.antt (which plans are accepted, our plan, the answers), specs/Inner.antt (what private functions require and
 // promise). Laws: proofs/Laws.antt: our plans are accepted, no accepted plan has fewer windows, and how much room is always enough.
 //
-// Nothing here grows with the number of rows: the search goes by runs of missing rows, the passes by windows.
+// No step is taken for each row: the search goes by runs of missing rows, the passes by windows.
 pub mod judge;
 mod runs;
 pub mod windows;

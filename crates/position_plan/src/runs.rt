@@ -1,12 +1,13 @@
 // The search for missing rows: a run at a time, whatever its width.
 ghost use mathlib.Core.Path.{_≡_};
 ghost use mathlib.Core.Bool.{cond};
-ghost use Prim.Native.Nat.{min};
+ghost use Prim.Native.Nat.{_+_, _≤_, min};
 ghost use lib.ListN.{length, getD};
 ghost use lib.Dec.{ltb};
-ghost use Rattle.position_plan.specs.Inner.{Searchable, NextRun, FirstFrom, GoesOn};
+ghost use Rattle.position_plan.specs.Inner.{Searchable, NextRun, Backable, LastRow, FirstFrom, GoesOn, LastBelow, GoesBack};
 use pairs_sort::larger;
 use position_given::smaller;
+use query_item::pooled::least;
 
 // Missing rows, from start on, below end; where end is not above start, no row from start on is missing. The pairs before `pair`, and the
 // proved positions before `seen`, are below start.
@@ -51,8 +52,82 @@ pub(crate) fn next_missing(
         start: x,
         end: x,
         pair: i,
-        seen: j,
+        seen: first_from(proved, j, x),
     }
+}
+
+// The end of the last missing row below row x, or 0 where there is none; pairs past `pair`, and proved positions from `seen` on, are not below
+// x. A turn finds it or passes a pair: the places only move back.
+pub(crate) fn last_missing(
+    intervals: &[u64],
+    proved: &[u64],
+    pair: usize,
+    seen: usize,
+    x: u64,
+) -> u64
+    requires { ⌜ Backable (now intervals) (now proved) pair seen x ⌝ }
+    ensures { λ r. ⌜ LastRow (now (intervals .entry)) (now (proved .entry)) x r ⌝ }
+{
+    let mut i = past(pair, intervals.len() / 2);
+    let mut j = least(seen, proved.len());
+    let mut t = x;
+    while 0 < i {
+        i -= 1;
+        let s = intervals[2 * i];
+        let e = smaller(intervals[2 * i + 1], t);
+        let at = last_below(proved, j, e);
+        j = goes_back(proved, at, s, e);
+        t = e - (at - j) as u64;
+        if s < t {
+            return t;
+        }
+    }
+    0
+}
+
+// How many pairs there are up to pair i, of n.
+fn past(i: usize, n: usize) -> usize
+    ensures { λ r. ⌜ r ≡ min (i + 1) n ⌝ }
+{
+    if i < n {
+        return i + 1;
+    }
+    n
+}
+
+// How many proved positions, of those before an index, are up to the last one below a row.
+fn last_below(proved: &[u64], to: usize, x: u64) -> usize
+    requires { ⌜ to ≤ length (now proved) ⌝ }
+    ensures { λ r. ⌜ LastBelow (now (proved .entry)) to x r ⌝ }
+{
+    let mut i = to;
+    while 0 < i {
+        if proved[i - 1] < x {
+            return i;
+        }
+        i -= 1;
+    }
+    i
+}
+
+// The index from which on the proved positions, up to an index, are the rows just before e, none of them before s.
+fn goes_back(proved: &[u64], to: usize, s: u64, e: u64) -> usize
+    requires { ⌜ to ≤ length (now proved) ⌝ }
+    ensures { λ r. ⌜ GoesBack (now (proved .entry)) to s e r ⌝ }
+{
+    let mut i = to;
+    let mut x = e;
+    while 0 < i {
+        if x <= s {
+            return i;
+        }
+        if proved[i - 1] != x - 1 {
+            return i;
+        }
+        x -= 1;
+        i -= 1;
+    }
+    i
 }
 
 // The first proved position, from an index on, at or above a row.

@@ -10,6 +10,7 @@ ghost use Rattle.position_plan.specs.Inner.{Plannable, Opens, NextWindow
 use crate::Planned;
 use crate::check_asked;
 use crate::runs::Run;
+use crate::runs::last_missing;
 use crate::runs::next_missing;
 use item_check::Checked;
 use item_check::Refusal;
@@ -116,22 +117,26 @@ fn write_windows(intervals: &[u64], proved: &[u64], most: u64, out: &mut [u64]) 
     n
 }
 
-// The window that opens at a run of missing rows: it closes at the last missing row within `most`. A turn takes a run.
+// The window that opens at a run of missing rows: it closes at the last missing row within `most`. Where a second run is within its reach, the
+// search goes on at its limit, so that what lies between is passed over, and goes back from there.
 fn next_window(intervals: &[u64], proved: &[u64], most: u64, first: Run) -> Window
     requires { ⌜ Opens (now intervals) (now proved) most first ⌝ }
     ensures { λ r. ⌜ NextWindow (now (intervals .entry)) (now (proved .entry)) most first r ⌝ }
 {
     let limit = reach(first.start, most);
-    let mut end = first.start;
-    let mut run = first;
-    while (run.start < run.end) & (run.start < limit) {
-        if limit < run.end {
-            return cut(run, limit);
-        }
-        end = run.end;
-        run = next_missing(intervals, proved, run.pair, run.seen, run.end);
+    if limit < first.end {
+        return cut(first, limit);
     }
-    Window { end, next: run }
+    let second = next_missing(intervals, proved, first.pair, first.seen, first.end);
+    if limit <= second.start {
+        return Window {
+            end: first.end,
+            next: second,
+        };
+    }
+    let next = next_missing(intervals, proved, second.pair, second.seen, limit);
+    let end = last_missing(intervals, proved, next.pair, next.seen, limit);
+    Window { end, next }
 }
 
 // The window that ends within a run, whose other rows are left.

@@ -50,9 +50,9 @@ loop-again c =
 -- no pair is left
 returns-2 : tie.Need-returns-2 Inv-loop μ-loop
 returns-2 c =
-    let at = c .before .loop in
-    let pre = c .before .before .before .before .pre in
-    searched-end (pre .sound) (pre .ascends) (at .inv) (c .loop-test .left)
+    let at = c .before .before .loop in
+    let pre = c .before .before .before .before .before .pre in
+    searched-end (pre .sound) (pre .ascends) (at .inv) (c .before .loop-test .left) (c .first-from2 .ensures)
 
 pub next-missing-spec : {M : Type 1} → statement M
 next-missing-spec =
@@ -78,4 +78,5 @@ next-missing-spec =
     (λ c. search needs)
     (λ c. search needs)
     loop-again
+    (λ c κs. search needs)
     returns-2)
