@@ -55,8 +55,9 @@ next-missing-requires-2 c κs =
 returns-4 : tie.Need-returns-4 Inv-loop μ-loop
 returns-4 c =
     let last = c .before .before in
+    let turn = last .before .before .before .before .before .before .before in
     let off = sym (c .before .starts-at2 .ensures) ∙ not-true _ (c .if4 .taken) in
-    judges-last (last .before .before .before .before .before .before .before .before .loop .inv) (last .before .before .before .before .before .before .before .loop-test .taken) (last .next-missing2 .ensures) off
+    judges-last (turn .before .loop .inv) (turn .loop-test .taken) (last .next-missing2 .ensures) off
 
 next-missing-requires-3 : tie.Need-next-missing-requires-3 Inv-loop μ-loop
 next-missing-requires-3 c κs =

@@ -44,13 +44,16 @@ returns-2 c =
 
 loop-again : tie.Need-loop-again Inv-loop μ-loop
 loop-again c =
-    let at = c .before .before .before .before in
+    let turn = c .before .before .before in
+    let at = turn .before in
     let a = at .before .args in
-    let l = at .loop in (
+    let l = at .loop in
+    let row : getD (now (a .proved)) (l .i - 1) 0 + (a .to - (l .i - 1)) ≡ a .e =
+    omega (arith, c .if2 .left, l .inv .1, l .inv .0, c .before .before .if1 .left, turn .loop-test .taken) in (
       search needs,
-      omega (arith, l .inv .1, l .inv .0, c .before .before .if1 .left, c .before .before .before .loop-test .taken),
+      omega (arith, l .inv .1, l .inv .0, c .before .before .if1 .left, turn .loop-test .taken),
       λ h. omega (arith, c .before .before .if1 .left),
-      rows-back (now (a .proved)) (a .to) (a .e) (l .i) (l .inv .3) (c .before .before .before .loop-test .taken) (omega (arith, c .if2 .left, l .inv .1, l .inv .0, c .before .before .if1 .left, c .before .before .before .loop-test .taken)),
+      rows-back (now (a .proved)) (a .to) (a .e) (l .i) (l .inv .3) (turn .loop-test .taken) row,
     )
 
 -- no position is left

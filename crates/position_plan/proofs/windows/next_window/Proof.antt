@@ -33,7 +33,9 @@ next-missing-requires-2 c κs =
 
 last-missing-requires : tie.Need-last-missing-requires
 last-missing-requires c κs =
-    search-back (c .before .before .before .before .before .before .before .before .before .pre .plannable) (c .next-missing2 .ensures) (omega (arith, c .next-missing2 .ensures .after, c .before .if2 .left, c .before .before .before .next-missing .ensures .after))
+    let second = c .before .before .before .next-missing .ensures in
+    search-back (c .before .before .before .before .before .before .before .before .before .pre .plannable) (c .next-missing2 .ensures)
+    (omega (arith, c .next-missing2 .ensures .after, c .before .if2 .left, second .after))
 
 -- others are
 returns-3 : tie.Need-returns-3
