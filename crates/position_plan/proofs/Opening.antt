@@ -1,22 +1,21 @@
 -- What the planner's searches start from, and the window that opens at a run. Assumes nothing.
 use Prim.Native.Nat.{ℕ, suc, _+_, _-_, _/_, _≤_, _<_, min}
 use mathlib.Core.Path.{_≡_, refl, sym, ap, _∙_}
-use mathlib.Core.Bool.{Bool, true, false, not, _&&_, true≢false, false≢true}
+use mathlib.Core.Bool.{Bool, true, false, true≢false}
 use mathlib.Core.List.{List, [], _∷_}
 use native.Mathlib.Decide.{decLt}
 use native.Mathlib.Omega.{arith}
 use lib.ListN.{length}
-use Rattle.intervals.specs.Intervals.{Interval, holds}
 use Rattle.position_given.specs.Given.{intervalsOf}
 use Rattle.position_given.specs.Inner.{Ascends, lastWord}
 use Rattle.position_given.proofs.Widths.{Words, ends-of, ends-held}
-use Rattle.position_mismatch.specs.Reports.{isIn, missing}
+use Rattle.position_mismatch.specs.Reports.{missing}
 use Rattle.position_mismatch.proofs.Laws.{missing-ascends}
 use Rattle.position_plan.specs.declared.runs.Run.{Run}
 use Rattle.position_plan.specs.Plans.{plan, planOf}
-use Rattle.position_plan.specs.Inner.{isMissing, Behind, Searchable, Ahead, Backable, AtRun, NextRun, LastRow}
+use Rattle.position_plan.specs.Inner.{isMissing, Behind, Searchable, Backable, AtRun, NextRun, LastRow}
 use Rattle.position_plan.specs.Inner.{Plannable, Opens, NextWindow, cutAt, leftFrom, windowsFrom}
-use Rattle.position_plan.proofs.Search.{missing-is}
+use Rattle.position_plan.proofs.Search.{missing-held}
 use Rattle.position_plan.proofs.Turns.{left-all, left-skip, plan-none, plan-close, plan-next}
 
 -- the same places serve a later row
@@ -25,12 +24,7 @@ behind-le B h = record { pairs = λ k l. omega (arith, B .pairs k l); rows = λ 
 
 -- no row from the last u64 on is missing
 missing-low : (ws P : List ℕ) → Words ws → (p : ℕ) → isMissing ws P p ≡ true → p < lastWord
-missing-low ws P U p h =
-    ends-held lastWord (intervalsOf ws) p (ends-of ws U (length ws / 2) 0) (left (holds (intervalsOf ws) p) (not (isIn P p)) (sym (missing-is ws P p) ∙ h))
-  where
-    left : (t u : Bool) → t && u ≡ true → t ≡ true
-    left true u e = refl
-    left false u e = absurd (false≢true e)
+missing-low ws P U p h = ends-held lastWord (intervalsOf ws) p (ends-of ws U (length ws / 2) 0) (missing-held ws P p h)
 
 module _ {ws P : List ℕ} {W : ℕ} (K : Plannable ws P W) where
   abbrev M : List ℕ

@@ -1,24 +1,24 @@
 -- How much room is always enough: windows open at least W rows apart, so that an interval has one for each W rows of it, and one more, at the
 -- most. Assumes nothing.
 use Prim.Native.Nat.{ℕ, zero, suc, _+_, _-_, _*_, _/_, _≤_, _<_}
-use mathlib.Core.Path.{_≡_, refl, sym, ap, _∙_}
-use mathlib.Core.Bool.{Bool, true, false, not, _&&_, or-true, false≢true}
+use mathlib.Core.Path.{_≡_, refl, ap, _∙_}
+use mathlib.Core.Bool.{true, or-true}
 use mathlib.Core.List.{List, [], _∷_, _++_}
 use native.Mathlib.Decide.{decLt}
 use native.Mathlib.Nat.{lt-mul-div-succ, le-div-iff-mul-le, div-mul-le-self, add-mul, mul-comm}
 use native.Mathlib.Omega.{arith}
 use lib.ListN.{length, length-append}
-use Rattle.intervals.specs.Intervals.{Interval, inside, holds}
+use Rattle.intervals.specs.Intervals.{Interval, holds}
 use Rattle.intervals.proofs.Members.{where-is, below, in-it, past, inside-below, inside-past}
 use Rattle.intervals.proofs.Laws.{All, all-append, holds-append}
 use Rattle.pairs_sort.proofs.Laws.{pairs-length}
 use Rattle.position_given.specs.Given.{intervalsOf}
 use Rattle.position_given.specs.Positions.{positionsOf}
 use Rattle.position_given.proofs.Widths.{length-positions}
-use Rattle.position_mismatch.specs.Reports.{isIn, missing}
+use Rattle.position_mismatch.specs.Reports.{missing}
 use Rattle.position_plan.specs.Plans.{planOf}
-use Rattle.position_plan.specs.Inner.{isMissing, Plannable}
-use Rattle.position_plan.proofs.Search.{missing-is}
+use Rattle.position_plan.specs.Inner.{Plannable}
+use Rattle.position_plan.proofs.Search.{missing-held}
 use Rattle.position_plan.proofs.Greedy.{holds-first, holds-later, plan-fewest}
 use Rattle.position_plan.proofs.Opening.{rows-ascend}
 
@@ -86,12 +86,5 @@ pub planned-room : (ws P : List ℕ) (W : ℕ) → Plannable ws P W
     → length (planOf W ws P) ≤ length (positionsOf (intervalsOf ws)) / W + length ws / 2
 planned-room ws P W K =
     let A = intervalsOf ws in
-    let few = plan-fewest W (missing A P) (cover W A) (K .wide) (rows-ascend K) (cover-narrow W A) (λ p h. cover-hold W A p (K .wide) (held p h)) in
+    let few = plan-fewest W (missing A P) (cover W A) (K .wide) (rows-ascend K) (cover-narrow W A) (λ p h. cover-hold W A p (K .wide) (missing-held ws P p h)) in
     omega (arith, few, cover-length W A (K .wide), pairs-length ws (length ws / 2) 0)
-  where
-    held : (p : ℕ) → isMissing ws P p ≡ true → holds (intervalsOf ws) p ≡ true
-    held p h = left (holds (intervalsOf ws) p) (not (isIn P p)) (sym (missing-is ws P p) ∙ h)
-      where
-        left : (t u : Bool) → t && u ≡ true → t ≡ true
-        left true u e = refl
-        left false u e = absurd (false≢true e)

@@ -1,7 +1,7 @@
 -- The search for the next run of missing rows: what a pair, the first proved position from a row on, and the positions that go on from there tell.
 -- Assumes nothing.
-use Prim.Native.Nat.{ℕ, suc, _+_, _-_, _/_, _≤_, _<_, min, max}
-use mathlib.Core.Path.{_≡_, sym, ap, _∙_}
+use Prim.Native.Nat.{ℕ, _+_, _-_, _/_, _≤_, _<_, min, max}
+use mathlib.Core.Path.{_≡_, refl, sym, ap, _∙_}
 use mathlib.Core.Bool.{Bool, true, false, cond, not, _&&_, and-false, true≢false, false≢true}
 use mathlib.Core.List.{List}
 use native.Mathlib.Decide.{decLt, ℕ-discrete}
@@ -18,12 +18,19 @@ use Rattle.position_given.proofs.Widths.{nonempty-at, ends-before}
 use Rattle.position_given.proofs.Held.{held-at}
 use Rattle.position_mismatch.specs.Reports.{isIn, missing}
 use Rattle.position_mismatch.proofs.Positions.{in-keep, in-positions, in-at, in-gap, ascends-at}
-use Rattle.position_plan.specs.declared.runs.Run.{Run}
-use Rattle.position_plan.specs.Inner.{isMissing, Behind, AtRun, NextRun, FirstFrom, GoesOn}
+use Rattle.position_plan.specs.Inner.{isMissing, Behind, NextRun, FirstFrom, GoesOn}
 
 pub missing-is : (ws P : List ℕ) (p : ℕ) → isMissing ws P p ≡ holds (intervalsOf ws) p && not (isIn P p)
 unfolding missing
 missing-is ws P p = in-keep (λ q. not (isIn P q)) (positionsOf (intervalsOf ws)) p ∙ rw (in-positions (intervalsOf ws) p)
+
+-- a missing row is covered
+pub missing-held : (ws P : List ℕ) (p : ℕ) → isMissing ws P p ≡ true → holds (intervalsOf ws) p ≡ true
+missing-held ws P p h = left (holds (intervalsOf ws) p) (not (isIn P p)) (sym (missing-is ws P p) ∙ h)
+  where
+    left : (t u : Bool) → t && u ≡ true → t ≡ true
+    left true u e = refl
+    left false u e = absurd (false≢true e)
 
 -- ---- turns of the two passes over proved positions
 

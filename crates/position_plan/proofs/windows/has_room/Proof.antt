@@ -1,6 +1,5 @@
 -- `has_room` meets its contract: so much room is always enough, or the windows are counted. Assumes nothing.
 use denote.Ref.{now}
-use borrow.Author.Needs.{needs}
 use Rattle.position_plan.proofs.Known.{always-fits}
 use Rattle.position_plan.proofs.windows.has_room.Statement.{statement}
 use Rattle.position_plan.proofs.windows.has_room.Tie as tie
