@@ -1,14 +1,17 @@
 # Where the Rust of dashpay/grovedb stands, read from here.
 GROVEDB_SRC ?= ../shared/docs/src
 RUN ?= long $(CURDIR)/docs/COMPARISON.md
+# How many invoices Python's decimal adds up again.
+CENTS ?= 1000000
 # What the program is shown on, and how many damaged files it is tried on.
 FILE ?= samples/document.krl
 COUNT ?= 10000
 EARLIER ?=
 # cargo by itself: it takes no part in make's own share of the cores.
 CARGO := env -u MAKEFLAGS -u MFLAGS cargo
+COMPARE = GROVEDB_SRC="$(GROVEDB_SRC)" $(CARGO) run --quiet --release --offline --manifest-path compare/Cargo.toml --
 
-.PHONY: run test prove beside lib compare compare-short bench record attack attack-short link-short link-c link-rust
+.PHONY: run test prove beside lib compare compare-short cents bench record attack attack-short link-short link-c link-rust
 
 # The program krl on a file. What is proved and unchanged is not proved again.
 run: target/krl.log
@@ -37,7 +40,7 @@ beside:
 	@[ ! -x target/bin/krl ] || touch target/krl.log
 	@{ $(MAKE) --no-print-directory compare-short && $(MAKE) --no-print-directory link-short && $(MAKE) --no-print-directory attack-short; } \
 	    >target/beside.log 2>&1 || { cat target/beside.log; echo "make: what is tried beside the proofs failed"; exit 1; }
-	@grep -E 'calls in all|^attack:|left out' target/beside.log
+	@grep -E 'calls in all|^decimal_cents:|^attack:|left out' target/beside.log
 
 # The program on files that are damaged in many ways.
 attack: target/krl.log
@@ -58,14 +61,27 @@ lib:
 	@cp target/native/libfernsponge.a target/lib/
 	@cp include/fernsponge.h target/include/
 
-# Our answers held against the Rust's, some five minutes; the table goes to docs/COMPARISON.md.
+# Our answers held against the Rust's, some five minutes; the table goes to docs/COMPARISON.md. Then our sums and cents against Python's.
 compare: lib
-	GROVEDB_SRC="$(GROVEDB_SRC)" $(CARGO) run --quiet --release --offline --manifest-path compare/Cargo.toml -- $(RUN)
+	$(COMPARE) $(RUN)
+	@$(MAKE) --no-print-directory cents
+
+# The totals of invoices, added up again and rounded by Python's decimal, where python3 is at hand; first three wrong lines, each of which has to
+# fail: another sum, another number of keys without a rate, half a cent as 1.
+cents: lib
+	@if command -v python3 >/dev/null; then \
+	    for wrong in '50;0;51 0 0' '50;0;50 1 0' '50;0;50 0 1'; do \
+	        ! echo "$$wrong" | tools/decimal_cents 1 >/dev/null || { echo "cents: $$wrong is accepted"; exit 1; }; \
+	    done && \
+	    $(COMPARE) cents $(CENTS) | tools/decimal_cents $(CENTS); \
+	else \
+	    echo "cents: left out, as python3 is not at hand"; \
+	fi
 
 # The same on a sample, where cargo and the Rust are at hand.
 compare-short:
 	@if command -v cargo >/dev/null && [ -d "$(GROVEDB_SRC)" ]; then \
-	    $(MAKE) --no-print-directory compare RUN=short; \
+	    $(MAKE) --no-print-directory compare RUN=short CENTS=30000; \
 	else \
 	    echo "compare-short: left out, as cargo or the Rust's sources (GROVEDB_SRC=$(GROVEDB_SRC)) are not at hand"; \
 	fi
@@ -89,6 +105,8 @@ link-c: lib
 	target/listing | diff - crates/krl/stdout
 	cc -std=c11 -Wall -Wextra -Wpedantic -Werror -Itarget/include c/plan.c target/lib/libfernsponge.a -o target/plan
 	target/plan | diff - c/plan.stdout
+	cc -std=c11 -Wall -Wextra -Wpedantic -Werror -Itarget/include c/card.c target/lib/libfernsponge.a -o target/card
+	target/card | diff - c/card.stdout
 
 link-rust: lib
 	$(CARGO) test --quiet --offline --manifest-path rust/Cargo.toml
@@ -101,5 +119,5 @@ bench: lib
 	GROVEDB_SRC="$(GROVEDB_SRC)" EARLIER_LIBS="$(if $(EARLIER),target/earlier)" $(CARGO) run --quiet --release --offline --manifest-path compare/Cargo.toml --bin bench -- "$(CURDIR)/docs"
 
 # The Rust's answers that the programs vectors_.. replay, made anew.
-record:
-	@$(MAKE) --no-print-directory compare RUN="record $(CURDIR)/crates"
+record: lib
+	$(COMPARE) record "$(CURDIR)/crates"

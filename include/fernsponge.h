@@ -1,4 +1,4 @@
-/* Fernsponge: ranges of keys and positions of a log. Link libfernsponge.a (`make lib` puts it and this file into target/).
+/* Fernsponge: ranges of keys, rates for them, and positions of a log. Link libfernsponge.a (`make lib` puts it and this file into target/).
  *
  * Every function is proved to meet its contract, as long as the caller passes what the parameters say:
  * - a lent slice is an address and a length in elements. The address is not null and is aligned for its elements, also where the length is 0;
@@ -9,9 +9,9 @@
  * FERNSPONGE_SIDE and FERNSPONGE_INDEX take a refusal apart:
  *
  *    1  malformed: an unknown code, wrapper or kind, words of an absent key that are not 0, a list whose words are no multiple of 6 or that
- *       has more than 2,048 items, a pool of more than 65,536 bytes, a count beyond its buffer, an odd number of interval or window words, a
- *       report with more than 16 examples
- *    2  a key longer than 255 bytes, or reaching past the pool
+ *       has more than 2,048 items, a pool of more than 65,536 bytes, a count beyond its buffer, an odd number of interval, window or key
+ *       words, a report with more than 16 examples, a card that has not one amount for each item
+ *    2  a key longer than 255 bytes, or reaching past the pool: of an item, or of an invoice
  *    3  an item that is not upright: its start stands above its end
  *    4  an item out of order: in the algebra each item ends below the start of the next
  *    5  a wrapped item in a position query
@@ -19,10 +19,13 @@
  *    7  a position key that is not 8 bytes
  *    8  proved positions that do not ascend strictly, spans that are turned round or start below the end of the one before
  *    9  intervals that are not canonical: nonempty, ascending, each end below the next start
+ *   14  an amount of a card below -10^12 or above 10^12
+ *   15  an invoice of more than 1,000 keys
  *   16  windows of at most 0 rows
  *
- * Side 0 is ours, 1 theirs; position items and intervals are side 0, proved positions, spans, windows of a plan and an item to insert side 1.
- * The index is that of the item, pair or position; the pool, the shape of a list, want of room and refusal 16 have index 0.
+ * Side 0 is ours, 1 theirs; position items, intervals, and a card's items and amounts are side 0, proved positions, spans, windows of a plan, an
+ * item to insert and the keys of an invoice side 1. The index is that of the item, amount, key, pair or position; the pool, the shape of a
+ * list, a card or an invoice, want of room, and refusals 15 and 16 have index 0.
  *
  * Keys stand in one pool of bytes, and an item names its keys by offset and length. An item is six words: code, wrapper, start offset, start
  * length, end offset, end length; the words of a key that its kind has not are 0. An item that may be missing is seven words: 1 and its six, or
@@ -122,6 +125,11 @@ uint64_t fernsponge_could_have_items_in_direction(const uint8_t *pool, size_t po
 /* Whether a list can be used in the algebra, as ours or as theirs. */
 uint64_t fernsponge_check_list(const uint8_t *pool, size_t pool_length, const uint32_t *words, size_t words_length, bool theirs);
 
+/* Which item of a list holds a key: found is 1 and its index, or twice 0 where no item holds it. The key is lent bytes of any length. The list
+ * is checked as check_list does it, as ours. */
+uint64_t fernsponge_find_item(const uint8_t *pool, size_t pool_length, const uint32_t *words, size_t words_length, const uint8_t *key,
+                              size_t key_length, uint64_t found[2]);
+
 /* What two items share, and what each keeps left and right of the other; any may be missing. */
 uint64_t fernsponge_intersect_items(const uint8_t *pool, size_t pool_length, const uint32_t ours[FERNSPONGE_ITEM_WORDS],
                                     const uint32_t theirs[FERNSPONGE_ITEM_WORDS], uint32_t in_both[FERNSPONGE_MAYBE_WORDS],
@@ -139,6 +147,23 @@ uint64_t fernsponge_intersect_many(const uint8_t *pool, size_t pool_length, cons
  * later ones stay. */
 uint64_t fernsponge_insert_item(const uint8_t *pool, size_t pool_length, uint32_t *words, size_t words_length, size_t count,
                                 const uint32_t item[FERNSPONGE_ITEM_WORDS], uint64_t *after);
+
+/* ---- rate cards. A card is a list, checked as check_list does it, as ours, and one amount for each item: ten-thousandths of the currency
+ * unit, from -10^12 to 10^12. Wrappers are read through. Nothing is lent for writing but the places of the answer */
+
+/* An amount or a sum, in ten-thousandths, as the nearest number of cents, and of two the even one: 50 is 0, 150 is 2, -50 is 0, -150 is -2.
+ * Any amount; it refuses nothing, and returns the cents. */
+int64_t fernsponge_to_cents(int64_t amount);
+
+/* The rate of a key: *has is 1 and *amount that of the item that holds it, or both are 0 where none does. The key is lent bytes of any length. */
+uint64_t fernsponge_rate(const uint8_t *pool, size_t pool_length, const uint32_t *words, size_t words_length, const int64_t *amounts,
+                         size_t amounts_length, const uint8_t *key, size_t key_length, uint32_t *has, int64_t *amount);
+
+/* The totals of an invoice of up to 1,000 keys: the exact sum of their rates, how many of them no item holds, and the sum in cents, as
+ * to_cents has it. keys are words in pairs, offset and length in the pool, and keys_length is the number of words, two a key; a key that stands
+ * there twice counts twice. The card is checked before the keys. */
+uint64_t fernsponge_invoice(const uint8_t *pool, size_t pool_length, const uint32_t *words, size_t words_length, const int64_t *amounts,
+                            size_t amounts_length, const uint32_t *keys, size_t keys_length, int64_t *sum, uint64_t *without, int64_t *cents);
 
 /* ---- positions. Intervals are pairs of words, start and end, half-open; their length is the number of words */
 

@@ -2,9 +2,11 @@
 //! are held against one another before they are timed. With a FOLDER it writes BENCHMARKS.md and benchmarks.svg there. `bench quick`
 //! takes seconds: lists of 128 items at most.
 
+mod card;
 mod chart;
 mod lists;
 mod others;
+mod rates;
 mod report;
 mod sweep;
 mod timing;
@@ -72,5 +74,9 @@ fn measure(sizes: &[usize]) -> Measured {
         building: others::building(),
         mismatches: others::mismatches(),
         planning: others::planning(),
+        rates: sizes
+            .iter()
+            .max()
+            .map_or(vec![], |items| rates::run(*items)),
     }
 }

@@ -3,6 +3,7 @@
 use crate::{
     lists::{Earlier, Timed},
     others::{Line, Planned},
+    rates::Rated,
 };
 use compare::table::grouped;
 
@@ -15,6 +16,7 @@ pub struct Measured {
     pub building: Vec<Line>,
     pub mismatches: Vec<Line>,
     pub planning: Vec<Planned>,
+    pub rates: Vec<Rated>,
 }
 
 impl Measured {
@@ -34,6 +36,13 @@ impl Measured {
             one.plan = one.plan.min(two.plan);
             one.check = one.check.min(two.check);
             one.missing = one.missing.min(two.missing);
+        }
+        for (one, two) in self.rates.iter_mut().zip(other.rates) {
+            one.invoice = one.invoice.least(two.invoice);
+            one.again = one.again.least(two.again);
+            one.none = one.none.least(two.none);
+            one.rate = one.rate.least(two.rate);
+            one.find = one.find.least(two.find);
         }
         for (lines, others) in [
             (&mut self.key_comparison, other.key_comparison),
@@ -63,7 +72,7 @@ the list that it drains nor freeing what it answers is timed.
 
 The reference for lists is a sweep with two indexes, written by hand in Rust and unproved (`compare/bench/sweep.rs`), which takes and gives the
 same words: *trusting* takes accepted lists and enough room for granted, *checking* refuses what our call refuses. For keys it is the standard
-library's order of slices.
+library's order of slices. For rate cards it is a binary search by hand (`compare/bench/card.rs`), which checks and refuses as our calls do.
 
 ";
 
@@ -113,6 +122,20 @@ rows / W + intervals. Where it is exactly enough the windows are counted first: 
 |---|--:|--:|--:|--:|
 ";
 
+const RATES: &str = "
+## The rate card
+
+The Rust has none. Each side checks the whole card in every call, the list with its order and the amounts, and then halves the list for each key.
+*Invoice*: 1,000 keys, asked by chance, half of them held by an item; each call has another of 64 invoices. *Again*: the same invoice in every
+call. The reference branches on what a comparison says, and of one invoice the processor learns its branches by heart; ours has none there, so
+that it takes as long for keys that were never asked before. *No keys*: the same call without a key, which is the check alone; *rate* and
+*find_item*: one key a call. Keys begin alike and differ near their ends, or in their first bytes (*early*). The items are ranges, single keys, or
+both in turns.
+
+| keys | items | | invoice | by hand | ours / by hand | again | by hand | ours / by hand | no keys | by hand | rate | by hand | find_item | by hand |
+|--:|--:|---|--:|--:|--:|--:|--:|--:|--:|--:|--:|--:|--:|--:|
+";
+
 pub fn text(measured: &Measured) -> String {
     let mut text = HEAD.to_string();
     let kind = std::env::consts::ARCH;
@@ -126,7 +149,7 @@ pub fn text(measured: &Measured) -> String {
         let growth = growth(&measured.lists, at).map_or("-".to_string(), two);
         text += &format!(
             "| {} | {} | {} | {} | {} | {} | {} | {} | {} | {} | {growth} |\n",
-            keys(timed),
+            keys(timed.length, timed.alike),
             timed.arrangement.name(),
             grouped(timed.items as u64),
             time(timed.ours),
@@ -177,6 +200,27 @@ pub fn text(measured: &Measured) -> String {
             two(row.plan / row.missing),
         );
     }
+    text += RATES;
+    for row in &measured.rates {
+        text += &format!(
+            "| {} | {} | {} | {} | {} | {} | {} | {} | {} | {} | {} | {} | {} | {} | {} |\n",
+            keys(row.length, row.alike),
+            grouped(row.items as u64),
+            row.kind.name(),
+            time(row.invoice.ours),
+            time(row.invoice.by_hand),
+            two(row.invoice.ratio()),
+            time(row.again.ours),
+            time(row.again.by_hand),
+            two(row.again.ratio()),
+            time(row.none.ours),
+            time(row.none.by_hand),
+            time(row.rate.ours),
+            time(row.rate.by_hand),
+            time(row.find.ours),
+            time(row.find.by_hand),
+        );
+    }
     text
 }
 
@@ -198,9 +242,9 @@ impl Line {
 }
 
 /// The length of the keys, and whether they differ early.
-fn keys(timed: &Timed) -> String {
-    let early = if timed.alike { "" } else { ", early" };
-    format!("{}{early}", timed.length)
+fn keys(length: usize, alike: bool) -> String {
+    let early = if alike { "" } else { ", early" };
+    format!("{length}{early}")
 }
 
 /// Our time beside that of half as many items, where the line before has it.
@@ -248,7 +292,8 @@ fn targets(measured: &Measured) -> Vec<Target> {
     let of = |timed: &Timed| {
         let name = timed.arrangement.name();
         let items = grouped(timed.items as u64);
-        format!("{items} items, keys of {}, {name}", keys(timed))
+        let keys = keys(timed.length, timed.alike);
+        format!("{items} items, keys of {keys}, {name}")
     };
     let ratio = |line: &Line| {
         let ours = line.ours?;
@@ -266,6 +311,17 @@ fn targets(measured: &Measured) -> Vec<Target> {
         (measured.planning.iter())
             .filter(move |row| row.always && (row.most == 1) == few)
             .map(|row| (row.plan / row.missing, row.what.clone()))
+    };
+    let invoices = |again: bool| {
+        measured.rates.iter().map(move |row| {
+            let (items, name) = (grouped(row.items as u64), row.kind.name());
+            let keys = keys(row.length, row.alike);
+            let both = if again { row.again } else { row.invoice };
+            (
+                both.ratio(),
+                format!("{items} items, {name}, keys of {keys}"),
+            )
+        })
     };
     let mut targets = vec![
         least(
@@ -299,6 +355,12 @@ fn targets(measured: &Measured) -> Vec<Target> {
         most("extra no slower", 1.0, starting("extra_in")),
         most("planning within 1.5 times of missing_from, W 10 and 500", 1.5, planned(false)),
         most("and W 1, a window for each missing row", 1.5, planned(true)),
+        most(
+            "an invoice of 1,000 keys on a card of 2,048 items within 2 times a binary search by hand that checks as ours does",
+            2.0,
+            invoices(false),
+        ),
+        most("and the same invoice in every call", 2.0, invoices(true)),
         least(
             "insertion at least 10 times as fast as the Rust",
             10.0,

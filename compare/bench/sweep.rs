@@ -4,7 +4,7 @@
 use std::cmp::Ordering;
 
 /// One item in words.
-const SIZE: usize = 6;
+pub const SIZE: usize = 6;
 
 /// Kinds of boundaries at a key, in their order; the unbounded ones stand below and above all keys.
 const BEFORE: u8 = 0;
@@ -230,7 +230,7 @@ pub fn checking(
     0
 }
 
-fn check(pool: &[u8], list: &[u32], side: u64) -> u64 {
+pub fn check(pool: &[u8], list: &[u32], side: u64) -> u64 {
     let refusal = |number: u64, index: usize| number + 256 * side + 65_536 * index as u64;
     if list.len() % SIZE != 0 || list.len() / SIZE > 2_048 {
         return refusal(1, 0);

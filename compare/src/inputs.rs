@@ -1,10 +1,11 @@
-//! Inputs: pools by chance in which keys begin alike, keys, items and accepted lists in them, damaged words, all lists of few items, and
-//! positions.
+//! Inputs: pools by chance in which keys begin alike, keys, items and accepted lists in them, damaged words, all lists of few items, positions,
+//! and rate cards.
 
 use crate::{
     boundaries::paper::{compare_items, range},
     items::{end_of, has_end, has_start, same, start_of, Words},
     random::Random,
+    refusals::{MOST_AMOUNT, MOST_ASKED},
     Size, BYTES,
 };
 
@@ -521,6 +522,44 @@ impl Keys {
         once
     }
 
+    /// One of the keys, at one of its places.
+    pub fn place(&self, random: &mut Random) -> [u32; 2] {
+        random.one_of(&self.keys)[random.below(2)]
+    }
+
+    /// One of the keys, or one that is longer or shorter by few bytes and still in the pool.
+    fn near_place(&self, random: &mut Random) -> [u32; 2] {
+        let [offset, length] = self.place(random);
+        let near = match random.below(4) {
+            0 => random.below(4) as u32,
+            1 => length.saturating_sub(1),
+            2 => length + 1,
+            _ => length,
+        };
+        [offset, near.min(self.pool.len() as u32 - offset)]
+    }
+
+    /// One of the keys, or one near it: a byte shorter, a byte longer, longer than any key of an item, with another last byte, or the empty one.
+    pub fn near(&self, random: &mut Random) -> Vec<u8> {
+        let [offset, length] = self.place(random);
+        let mut key = self.pool[offset as usize..][..length as usize].to_vec();
+        match random.below(8) {
+            0 => drop(key.pop()),
+            1 => key.push(random.one_of(&BYTES)),
+            2 => {
+                key.pop();
+                key.push(random.one_of(&BYTES));
+            }
+            3 => {
+                let more = 250 + random.below(60);
+                key.extend(bytes(random, more));
+            }
+            4 => key.clear(),
+            _ => {}
+        }
+        key
+    }
+
     /// A few of the keys.
     pub fn some(&self, random: &mut Random, count: usize) -> Vec<Vec<u8>> {
         let mut some = vec![];
@@ -529,5 +568,80 @@ impl Keys {
             some.push(self.pool[offset as usize..][..length as usize].to_vec());
         }
         some
+    }
+}
+
+/// Amounts that no card has.
+pub const OUTSIDE: [i64; 4] = [MOST_AMOUNT + 1, -MOST_AMOUNT - 1, i64::MAX, i64::MIN];
+
+/// An amount of a card: small, at a limit, or any; many end in half a cent.
+pub fn some_amount(random: &mut Random) -> i64 {
+    let width = random.one_of(&[1_000, 100_000, MOST_AMOUNT, MOST_AMOUNT]) as u64;
+    let amount = (random.next() % (2 * width + 1)) as i64 - width as i64;
+    match random.below(8) {
+        0 => random.one_of(&[0, 50, -50, MOST_AMOUNT, -MOST_AMOUNT]),
+        1..4 => (amount / 200 * 100 + 50) * random.one_of(&[1, -1]),
+        _ => amount,
+    }
+}
+
+/// A list and an amount for each of its items, and words of keys that are asked of it; some of it damaged.
+pub struct SomeCard {
+    pub keys: Keys,
+    pub words: Vec<u32>,
+    pub amounts: Vec<i64>,
+    pub asked: Vec<u32>,
+}
+
+impl SomeCard {
+    /// A card of so many items at most.
+    pub fn new(random: &mut Random, most: usize) -> Self {
+        let keys = Keys::new(random, most);
+        let mut list = keys.list(random, most);
+        let mut amounts: Vec<i64> = list.iter().map(|_| some_amount(random)).collect();
+        let often = random.below(8);
+        if often == 0 {
+            disorder(random, &mut list);
+        }
+        let mut words = list.concat();
+        if often == 1 {
+            damage(random, &mut words, &keys.pool);
+        }
+        // beside what is wrong with the list too
+        if often < 3 && random.below(2) == 0 {
+            damage_amounts(random, &mut amounts);
+        }
+        let count = match random.below(100) {
+            0 => MOST_ASKED - 1 + random.below(3),
+            1..5 => random.below(300),
+            _ => random.below(12),
+        };
+        let mut asked = vec![];
+        for _ in 0..count {
+            asked.extend(keys.near_place(random));
+        }
+        if random.below(8) == 0 {
+            damage(random, &mut asked, &keys.pool);
+        }
+        Self {
+            keys,
+            words,
+            amounts,
+            asked,
+        }
+    }
+}
+
+/// One amount too few or too many, or one that is out of range.
+fn damage_amounts(random: &mut Random, amounts: &mut Vec<i64>) {
+    match random.below(5) {
+        0 => drop(amounts.pop()),
+        1 => amounts.push(0),
+        _ => {
+            let at = random.below(amounts.len() + 1);
+            if let Some(amount) = amounts.get_mut(at) {
+                *amount = random.one_of(&OUTSIDE);
+            }
+        }
     }
 }

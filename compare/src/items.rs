@@ -136,7 +136,7 @@ pub fn same(x: Words, y: Words, pool: &[u8]) -> bool {
     x[..2] == y[..2] && keys(x, pool) == keys(y, pool)
 }
 
-fn part(pool: &[u8], offset: u32, length: u32) -> Option<&[u8]> {
+pub fn part(pool: &[u8], offset: u32, length: u32) -> Option<&[u8]> {
     pool.get(offset as usize..)?.get(..length as usize)
 }
 
@@ -159,8 +159,13 @@ pub fn holds(code: u32, a: &[u8], b: &[u8], k: &[u8]) -> bool {
 
 /// Whether one of a list's items, as words, holds k.
 pub fn list_holds(list: &[u32], pool: &[u8], k: &[u8]) -> bool {
+    holding(list, pool, k).is_some()
+}
+
+/// The first of a list's items, as words, that holds k.
+pub fn holding(list: &[u32], pool: &[u8], k: &[u8]) -> Option<usize> {
     let mut items = list.chunks(6).filter_map(six);
-    items.any(|item| {
+    items.position(|item| {
         let (a, b) = keys(item, pool);
         holds(item[0], a, b, k)
     })

@@ -7,6 +7,8 @@ extern crate self as grovedb_merk;
 pub mod algebra;
 mod boundaries;
 mod calls;
+mod card_calls;
+pub mod cards;
 mod departures;
 pub mod earlier;
 pub mod inputs;
@@ -14,6 +16,7 @@ mod insert_calls;
 mod insert_differences;
 mod insertion;
 mod interval_calls;
+pub mod invoices;
 mod item_calls;
 pub mod items;
 mod key_order;
@@ -73,6 +76,8 @@ pub struct Size {
     longest: usize,
     /// the keys over which every item is inserted into all lists of three items
     inserted: usize,
+    /// the most items of all the lists over keys of two bytes that are tried as rate cards
+    carded: usize,
     /// the positions over which all queries of two items are tried
     positions: usize,
     /// the rows over which plans are made of all covered and all proved ones
@@ -95,6 +100,7 @@ pub const SHORT: Size = Size {
     long_lists: 2,
     longest: 512,
     inserted: 2,
+    carded: 2,
     positions: 6,
     logged: 6,
     missing: 10,
@@ -112,6 +118,7 @@ pub const LONG: Size = Size {
     long_lists: 6,
     longest: 2_048,
     inserted: 4,
+    carded: 3,
     positions: 10,
     logged: 8,
     missing: 12,
@@ -136,6 +143,7 @@ pub fn run(size: &Size) -> Vec<table::Row> {
     rows.extend(interval_calls::run(random, size));
     rows.extend(plan_calls::run(random, size));
     rows.extend(position_differences::run());
+    rows.extend(card_calls::run(random, size));
     rows
 }
 

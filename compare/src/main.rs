@@ -1,7 +1,8 @@
 //! `compare short` takes seconds, `compare long` is the whole; with a FILE besides, the table is written there too. Exit status 1 where
-//! anything disagrees. `compare record FOLDER` writes a sample of the Rust's answers, for programs of ours to replay.
+//! anything disagrees. `compare record FOLDER` writes a sample of the Rust's answers, for programs of ours to replay. `compare cents COUNT`
+//! writes so many invoices with our totals, one a line, for tools/decimal_cents to hold.
 
-use compare::{record, run, table, Size, LONG, SEED, SHORT};
+use compare::{invoices, record, run, table, Size, LONG, SEED, SHORT};
 use std::{env, io, path::Path, process::ExitCode};
 
 fn main() -> ExitCode {
@@ -12,10 +13,11 @@ fn main() -> ExitCode {
         ["long"] => compared(&LONG, "long", None),
         ["long", file] => compared(&LONG, "long", Some(file)),
         ["record", folder] => record::run(Path::new(folder)).map(|()| 0),
-        _ => {
-            eprintln!("usage: compare short|long [FILE]|record FOLDER");
-            return ExitCode::from(2);
-        }
+        ["cents", count] => match count.parse() {
+            Ok(count) => invoices::write(count, &mut io::stdout().lock()).map(|()| 0),
+            Err(_) => return usage(),
+        },
+        _ => return usage(),
     };
     match done {
         Ok(0) => ExitCode::SUCCESS,
@@ -28,6 +30,11 @@ fn main() -> ExitCode {
             ExitCode::FAILURE
         }
     }
+}
+
+fn usage() -> ExitCode {
+    eprintln!("usage: compare short|long [FILE]|record FOLDER|cents COUNT");
+    ExitCode::from(2)
 }
 
 /// A run, and how many of its calls fail.

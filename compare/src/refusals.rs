@@ -6,6 +6,8 @@ use crate::{
 };
 
 pub const MOST_ITEMS: usize = 2_048;
+pub const MOST_AMOUNT: i64 = 1_000_000_000_000;
+pub const MOST_ASKED: usize = 1_000;
 const MOST_POOL: usize = 65_536;
 const MOST_KEY: u32 = 255;
 
@@ -135,6 +137,39 @@ fn clash(
     let plain = old[1] == 0 && new[1] == 0;
     let above = paper::order(new_range[0], old_range[1]).is_gt();
     below || (plain && !above) || same(*old, *new, pool)
+}
+
+/// A rate card: the pool, the list's shape, 1 for amounts that are not as many as the items, the rest of the list's own, and then 14 for the
+/// first amount that is out of range (02 §8.9, §8.10).
+pub fn card(pool: &[u8], words: &[u32], amounts: &[i64]) -> Checked<()> {
+    self::pool(pool)?;
+    shape(words, 0)?;
+    if words.len() / 6 != amounts.len() {
+        return refuse(1, 0, 0);
+    }
+    list(pool, words, 0)?;
+    let in_range = |amount: &i64| -MOST_AMOUNT <= *amount && *amount <= MOST_AMOUNT;
+    match amounts.iter().position(|amount| !in_range(amount)) {
+        Some(index) => refuse(14, 0, index),
+        None => Ok(()),
+    }
+}
+
+/// The keys of an invoice, in the card's pool: 1 for an odd number of words, 15 for too many, then 2 for the first that is too long or past
+/// the pool.
+pub fn asked(pool: &[u8], keys: &[u32]) -> Checked<()> {
+    if keys.len() % 2 == 1 {
+        return refuse(1, 1, 0);
+    }
+    if keys.len() / 2 > MOST_ASKED {
+        return refuse(15, 1, 0);
+    }
+    for (index, key) in keys.chunks(2).enumerate() {
+        if key_out(pool, key[0], key[1]) {
+            return refuse(2, 1, index);
+        }
+    }
+    Ok(())
 }
 
 /// The items of a position query: the pool, the shape, then 1, 2, 5 and 7 of each.

@@ -205,6 +205,32 @@ pub fn check_list(pool: &[u8], items: &[Item], side: Side) -> Result<(), Refusal
     ))
 }
 
+/// Which item of a list holds a key of any length, if one does. The list is checked as [`check_list`] does it, as ours: so no two items hold the
+/// same key.
+///
+/// ```
+/// use fernsponge::{find_item, Item, Pool};
+///
+/// let mut pool = Pool::new();
+/// let (low, middle, high) = (pool.add(&[1])?, pool.add(&[5])?, pool.add(&[9])?);
+/// let list = [Item::range(low, middle), Item::range_inclusive(middle, high)];
+/// assert_eq!(find_item(pool.bytes(), &list, &[4, 255])?, Some(0));
+/// assert_eq!(find_item(pool.bytes(), &list, &[5])?, Some(1));
+/// assert_eq!(find_item(pool.bytes(), &list, &[9, 0])?, None);
+/// # Ok::<(), fernsponge::Refusal>(())
+/// ```
+pub fn find_item(pool: &[u8], items: &[Item], key: &[u8]) -> Result<Option<usize>, Refusal> {
+    let mut found = [0; 2];
+    Refusal::from_number(words::find_item(
+        pool,
+        words::of_items(items),
+        key,
+        &mut found,
+    ))?;
+    let [some, index] = found;
+    Ok((some == 1).then_some(index as usize))
+}
+
 /// An item or none, of the seven words that stand for it.
 pub(crate) fn maybe([some, code, wrapper, a, b, c, d]: words::MaybeWords) -> Option<Item> {
     (some == 1).then(|| Item::from_words([code, wrapper, a, b, c, d]))

@@ -11,6 +11,7 @@ const MOST_POOL: usize = 65_536;
 
 /// A key as a part of the pool.
 #[derive(Clone, Copy, Debug, Default, PartialEq, Eq, Hash)]
+#[repr(C)]
 pub struct KeyAt {
     /// Where it begins.
     pub offset: u32,

@@ -1,6 +1,6 @@
 //! Ranges of keys and positions of a log, as a rate shopping engine compares them: which lanes two lists share, which only ours has and
-//! which only theirs; what an inserted lane merges with; which rows of a log are covered, missing or extra, and in which windows to fetch
-//! the missing ones again.
+//! which only theirs; what an inserted lane merges with; what a lane costs by a rate card, and an invoice of lanes; which rows of a log are
+//! covered, missing or extra, and in which windows to fetch the missing ones again.
 //!
 //! The answers come from `libfernsponge.a`, whose every function is proved to meet its contract: each call ends on any input, checks the
 //! input itself, and answers, or refuses with a number, a side and an index ([`Refusal`]). A refused call changes nothing.
@@ -26,6 +26,7 @@
 #![deny(missing_docs)]
 
 mod ask;
+mod card;
 mod item;
 mod lists;
 mod positions;
@@ -34,9 +35,10 @@ pub mod words;
 
 pub use ask::{
     check_list, compare, compare_boundaries, could_contain_key, could_have_items_in_direction,
-    order_items, to_query_item, to_range_set, Boundary, BoundaryKind, Direction, KeyContainment,
-    RangeSet,
+    find_item, order_items, to_query_item, to_range_set, Boundary, BoundaryKind, Direction,
+    KeyContainment, RangeSet,
 };
+pub use card::{Amount, AmountError, Cents, Invoice, RateCard, Total};
 pub use item::{Item, KeyAt, Pool, QueryItem, Shown, Wrapper};
 pub use lists::{
     insert, insert_item, intersect, intersect_many_into, intersect_many_ordered, Counts, Lists,

@@ -2,8 +2,8 @@
 
 use std::fmt;
 
-/// Whose input is meant: ours or theirs. Position items and intervals are ours; proved positions, spans, windows of a plan and an item to
-/// insert are theirs.
+/// Whose input is meant: ours or theirs. Position items, intervals, and a card's items and amounts are ours; proved positions, spans, windows
+/// of a plan, an item to insert and the keys of an invoice are theirs.
 #[derive(Clone, Copy, Debug, PartialEq, Eq, Hash)]
 pub enum Side {
     /// The first of two lists, or the only input.
@@ -17,9 +17,9 @@ pub enum Side {
 #[non_exhaustive]
 pub enum Reason {
     /// 1: an unknown code or wrapper, words of an absent key that are not 0, a list of more than 2,048 items, a pool of more than 65,536
-    /// bytes, a count beyond its buffer, an odd number of interval or window words.
+    /// bytes, a count beyond its buffer, an odd number of interval, window or key words, a card that has not one amount for each item.
     Malformed,
-    /// 2: a key longer than 255 bytes, or reaching past the pool.
+    /// 2: a key longer than 255 bytes, or reaching past the pool: of an item, or of an invoice.
     KeyOutside,
     /// 3: an item whose start stands above its end.
     NotUpright,
@@ -35,6 +35,10 @@ pub enum Reason {
     NotAscending,
     /// 9: intervals that are not ascending, nonempty and apart.
     NotCanonical,
+    /// 14: an amount of a card below -10^12 or above 10^12 ten-thousandths.
+    AmountOutside,
+    /// 15: an invoice of more than 1,000 keys.
+    TooManyKeys,
     /// 16: windows of at most 0 rows, which can fetch nothing.
     EmptyWindows,
     /// A number that this version does not know.
@@ -55,12 +59,12 @@ pub enum Reason {
 /// ```
 #[derive(Clone, Copy, Debug, PartialEq, Eq, Hash)]
 pub struct Refusal {
-    /// The number of the refusal: 1 to 9, or 16.
+    /// The number of the refusal: 1 to 9, or 14 to 16.
     pub number: u8,
     /// Whose input is meant.
     pub side: Side,
-    /// The index of the item, pair or position that is meant, from 0; the pool, the shape of a list, want of room and windows of no rows
-    /// have 0.
+    /// The index of the item, amount, key, pair or position that is meant, from 0; the pool, the shape of a list, a card or an invoice, want of
+    /// room, too many keys and windows of no rows have 0.
     pub index: u64,
 }
 
@@ -93,6 +97,8 @@ impl Refusal {
             7 => Reason::NoPosition,
             8 => Reason::NotAscending,
             9 => Reason::NotCanonical,
+            14 => Reason::AmountOutside,
+            15 => Reason::TooManyKeys,
             16 => Reason::EmptyWindows,
             _ => Reason::Unknown,
         }
@@ -108,7 +114,12 @@ impl fmt::Display for Refusal {
         let (what, why) = match self.reason() {
             Reason::Malformed => (
                 "item",
-                "malformed: an unknown code or wrapper, a word of an absent key that is not 0, a list, pool or count beyond its limit, or an odd number of words",
+                "malformed: an unknown code or wrapper, a word of an absent key that is not 0, a list, pool or count beyond its limit, an odd number of words, or not one amount for each item of a card",
+            ),
+            // theirs is an item of a list, or a key of an invoice
+            Reason::KeyOutside if self.side == Side::Theirs => (
+                "item or invoice key",
+                "a key is longer than 255 bytes or reaches past the pool",
             ),
             Reason::KeyOutside => ("item", "a key of it is longer than 255 bytes or reaches past the pool"),
             Reason::NotUpright => ("item", "its start stands above its end"),
@@ -124,6 +135,8 @@ impl fmt::Display for Refusal {
                 "interval",
                 "intervals are not empty, ascend, and stand apart from each other",
             ),
+            Reason::AmountOutside => ("amount", "it is not from -100,000,000 to 100,000,000 currency units"),
+            Reason::TooManyKeys => return write!(f, "an invoice has at most 1,000 keys (refusal 15)"),
             Reason::EmptyWindows => return write!(f, "windows of at most 0 rows can fetch nothing (refusal 16)"),
             Reason::Unknown => ("input", "refused for a reason that this version does not know"),
         };

@@ -5,7 +5,7 @@
 //! number + 256 · side + 65,536 · index ([`Refusal::from_number`](crate::Refusal::from_number) takes it apart), or 0, and writes only
 //! where it returns 0.
 
-use crate::{positions, Item};
+use crate::{positions, Amount, Item, KeyAt};
 
 /// The six words of an item: code, wrapper, start offset, start length, end offset, end length. Two boundaries are six words too, the kinds
 /// of start and end in place of code and wrapper.
@@ -33,6 +33,37 @@ pub fn of_items_mut(items: &mut [Item]) -> &mut [u32] {
 pub fn of_spans(spans: &[positions::Span]) -> &[Span] {
     // SAFETY: a span is its two numbers, start first (`repr(C)`), as the array is
     unsafe { std::slice::from_raw_parts(spans.as_ptr().cast(), spans.len()) }
+}
+
+// what the next two functions rest on
+const _: () = assert!(
+    size_of::<KeyAt>() == 8
+        && std::mem::offset_of!(KeyAt, offset) == 0
+        && std::mem::offset_of!(KeyAt, length) == 4
+        && size_of::<Amount>() == 8
+);
+
+/// The offset and length of each key, in place: two words a key.
+pub fn of_keys(keys: &[KeyAt]) -> &[u32] {
+    // SAFETY: a KeyAt is its two words, offset first (`repr(C)`), so that so many keys are twice as many words at the same address
+    unsafe { std::slice::from_raw_parts(keys.as_ptr().cast(), keys.len() * 2) }
+}
+
+/// The numbers of amounts, in place: ten-thousandths.
+pub fn of_amounts(amounts: &[Amount]) -> &[i64] {
+    // SAFETY: an Amount is its number (`repr(transparent)`)
+    unsafe { std::slice::from_raw_parts(amounts.as_ptr().cast(), amounts.len()) }
+}
+
+/// The totals of an invoice.
+#[derive(Clone, Copy, Debug, Default, PartialEq)]
+pub struct Invoice {
+    /// The exact sum, in ten-thousandths.
+    pub sum: i64,
+    /// How many keys no item holds.
+    pub without: u64,
+    /// The sum in cents, halves to the even cent.
+    pub cents: i64,
 }
 
 /// Positions that are off: how many, and the smallest of them in the first places.
@@ -125,6 +156,16 @@ mod c {
             theirs: bool,
         ) -> u64;
 
+        pub fn fernsponge_find_item(
+            pool: *const u8,
+            pool_length: usize,
+            words: *const u32,
+            words_length: usize,
+            key: *const u8,
+            key_length: usize,
+            found: &mut [u64; 2],
+        ) -> u64;
+
         pub fn fernsponge_intersect_items(
             pool: *const u8,
             pool_length: usize,
@@ -161,6 +202,35 @@ mod c {
             count: usize,
             item: &Words,
             after: &mut u64,
+        ) -> u64;
+
+        pub fn fernsponge_to_cents(amount: i64) -> i64;
+
+        pub fn fernsponge_rate(
+            pool: *const u8,
+            pool_length: usize,
+            words: *const u32,
+            words_length: usize,
+            amounts: *const i64,
+            amounts_length: usize,
+            key: *const u8,
+            key_length: usize,
+            has: &mut u32,
+            amount: &mut i64,
+        ) -> u64;
+
+        pub fn fernsponge_invoice(
+            pool: *const u8,
+            pool_length: usize,
+            words: *const u32,
+            words_length: usize,
+            amounts: *const i64,
+            amounts_length: usize,
+            keys: *const u32,
+            keys_length: usize,
+            sum: &mut i64,
+            without: &mut u64,
+            cents: &mut i64,
         ) -> u64;
 
         pub fn fernsponge_be_u64(key: *const u8, key_length: usize, position: &mut u64) -> u64;
@@ -363,6 +433,22 @@ pub fn check_list(pool: &[u8], words: &[u32], theirs: bool) -> u64 {
     }
 }
 
+/// Writes 1 and the index of the item that holds the key, or twice 0.
+pub fn find_item(pool: &[u8], words: &[u32], key: &[u8], found: &mut [u64; 2]) -> u64 {
+    // SAFETY: as in `compare_boundaries`
+    unsafe {
+        c::fernsponge_find_item(
+            pool.as_ptr(),
+            pool.len(),
+            words.as_ptr(),
+            words.len(),
+            key.as_ptr(),
+            key.len(),
+            found,
+        )
+    }
+}
+
 /// Writes the five parts: the shared one, ours left and right, theirs left and right.
 pub fn intersect_items(
     pool: &[u8],
@@ -433,6 +519,64 @@ pub fn insert_item(
             count,
             item,
             after,
+        )
+    }
+}
+
+/// The nearest number of cents of ten-thousandths, and of two the even one. Nothing is refused.
+pub fn to_cents(amount: i64) -> i64 {
+    // SAFETY: nothing is lent
+    unsafe { c::fernsponge_to_cents(amount) }
+}
+
+/// Writes 1 and the amount of the item that holds the key, or 0 and 0.
+pub fn rate(
+    pool: &[u8],
+    words: &[u32],
+    amounts: &[i64],
+    key: &[u8],
+    has: &mut u32,
+    amount: &mut i64,
+) -> u64 {
+    // SAFETY: as in `compare_boundaries`, of both that are lent for writing
+    unsafe {
+        c::fernsponge_rate(
+            pool.as_ptr(),
+            pool.len(),
+            words.as_ptr(),
+            words.len(),
+            amounts.as_ptr(),
+            amounts.len(),
+            key.as_ptr(),
+            key.len(),
+            has,
+            amount,
+        )
+    }
+}
+
+/// Writes the totals of an invoice, whose keys are two words each, offset and length.
+pub fn invoice(
+    pool: &[u8],
+    words: &[u32],
+    amounts: &[i64],
+    keys: &[u32],
+    invoice: &mut Invoice,
+) -> u64 {
+    // SAFETY: as in `compare_boundaries`, of each of the three that are lent for writing
+    unsafe {
+        c::fernsponge_invoice(
+            pool.as_ptr(),
+            pool.len(),
+            words.as_ptr(),
+            words.len(),
+            amounts.as_ptr(),
+            amounts.len(),
+            keys.as_ptr(),
+            keys.len(),
+            &mut invoice.sum,
+            &mut invoice.without,
+            &mut invoice.cents,
         )
     }
 }

@@ -260,6 +260,533 @@ fn insertion_by_hand() {
     assert_eq!(lent[2], Item::from_words([7; 6]));
 }
 
+/// [01,05), then [05,09], then the key 0B, which is wrapped.
+fn lanes() -> [Item; 3] {
+    [
+        Item::range(at(1), at(5)),
+        Item::range_inclusive(at(5), at(9)),
+        Item::new(Wrapper::Sum, QueryItem::Key(at(11))),
+    ]
+}
+
+#[test]
+fn the_item_that_holds_a_key() {
+    let found = |key: &[u8]| find_item(&pool(), &lanes(), key).unwrap();
+    for (key, index) in [
+        (&[][..], None),
+        (&[0, 255], None),
+        (&[1], Some(0)),
+        (&[1, 0], Some(0)),
+        (&[4, 255], Some(0)),
+        (&[5], Some(1)),
+        (&[9], Some(1)),
+        (&[9, 0], None),
+        (&[11], Some(2)),
+        (&[11, 0], None),
+        (&[3; 300], Some(0)),
+        (&[12; 300], None),
+    ] {
+        assert_eq!(found(key), index, "{key:?}");
+    }
+    let between = [Item::from(QueryItem::RangeAfterTo(at(12), at(14)))];
+    let found = |key: &[u8]| find_item(&pool(), &between, key).unwrap();
+    assert_eq!((found(&[12]), found(&[14])), (None, None));
+    assert_eq!((found(&[12, 0]), found(&[13, 255])), (Some(0), Some(0)));
+    assert_eq!(find_item(&[], &[], &[]), Ok(None));
+    let all = [Item::from(QueryItem::RangeFull)];
+    assert_eq!(find_item(&[], &all, &[]), Ok(Some(0)));
+    let twice = [Item::key(at(5)), Item::key(at(5))];
+    let refusal = find_item(&pool(), &twice, &[5]).unwrap_err();
+    assert_eq!(Err(refusal), check_list(&pool(), &twice, Side::Ours));
+    // what is lent for the answer stays
+    let many = [0, 0, 5, 1, 0, 0].repeat(2_049);
+    for (words, refused) in [
+        (&[0; 5][..], 1),
+        (&many, 1),
+        (&[10, 0, 0, 0, 0, 0], 1),
+        (&[0, 0, 256, 1, 0, 0], 2),
+        (&[2, 0, 5, 1, 3, 1], 3),
+        (&[0, 0, 5, 1, 0, 0, 0, 0, 5, 1, 0, 0], 4 + 65_536),
+    ] {
+        let mut found = [7; 2];
+        let returned = words::find_item(&pool(), words, &[5], &mut found);
+        assert_eq!((returned, found), (refused, [7; 2]));
+    }
+    let mut found = [7; 2];
+    let returned = words::find_item(&[0; 65_537], &[], &[5], &mut found);
+    assert_eq!((returned, found), (1, [7; 2]));
+    // and is 0 where no item holds the key
+    let returned = words::find_item(&[], &[], &[5], &mut found);
+    assert_eq!((returned, found), (0, [0; 2]));
+}
+
+/// The amount of so many ten-thousandths.
+fn amount(number: i64) -> Amount {
+    Amount::from_ten_thousandths(number).unwrap()
+}
+
+#[test]
+fn amounts_as_text() {
+    for (text, number, written) in [
+        ("12.3456", 123_456, "12.3456"),
+        ("-0.5", -5_000, "-0.5"),
+        ("7", 70_000, "7"),
+        ("+1.25", 12_500, "1.25"),
+        ("0", 0, "0"),
+        ("-0", 0, "0"),
+        ("-0.0000", 0, "0"),
+        ("0.0001", 1, "0.0001"),
+        ("1.5000", 15_000, "1.5"),
+        ("007.50", 75_000, "7.5"),
+        ("10", 100_000, "10"),
+        ("100000000", 1_000_000_000_000, "100000000"),
+        ("-100000000.0000", -1_000_000_000_000, "-100000000"),
+        ("99999999.9999", 999_999_999_999, "99999999.9999"),
+    ] {
+        let read: Amount = text.parse().unwrap();
+        assert_eq!(read.ten_thousandths(), number, "{text}");
+        assert_eq!(read.to_string(), written);
+    }
+    let zeros = "0".repeat(100_000);
+    assert_eq!(format!("-{zeros}1.5").parse(), Ok(amount(-15_000)));
+    // a width is kept, as numbers do it
+    assert_eq!(
+        format!("{:8}|{:+}", amount(-5_000), amount(5_000)),
+        "    -0.5|+0.5"
+    );
+}
+
+#[test]
+fn texts_that_are_no_amounts() {
+    for text in [
+        "",
+        "-",
+        "+",
+        ".",
+        ".5",
+        "5.",
+        "-.5",
+        "-5.",
+        "--1",
+        "+-1",
+        "1-",
+        "1.2.3",
+        "1.-2",
+        "1e3",
+        "1,5",
+        "1_000",
+        "1'000",
+        " 1",
+        "1 ",
+        "1. 5",
+        "\t1",
+        "1\n",
+        "0x10",
+        "NaN",
+        "inf",
+        "\u{2212}1",
+        "\u{661}",
+        "1.\u{665}",
+        "\u{ff11}",
+        "\u{e9}",
+        "1\0",
+    ] {
+        assert_eq!(
+            text.parse::<Amount>(),
+            Err(AmountError::NoNumber),
+            "{text:?}"
+        );
+    }
+    let long = "9".repeat(100_000);
+    for text in [
+        "1.50000",
+        "0.00000",
+        "1.23456",
+        "-999999999999.00001",
+        &format!("0.{long}"),
+        &format!("{long}.{long}"),
+    ] {
+        assert_eq!(
+            text.parse::<Amount>(),
+            Err(AmountError::TooManyPlaces),
+            "{text:.30}"
+        );
+    }
+    for text in [
+        "100000000.0001",
+        "-100000000.0001",
+        "100000001",
+        "922337203685477.5807",
+        "922337203685477.5808",
+        "-922337203685477.5809",
+        "18446744073709551616",
+        &long,
+        &format!("-{long}.5"),
+    ] {
+        assert_eq!(
+            text.parse::<Amount>(),
+            Err(AmountError::OutOfRange),
+            "{text:.30}"
+        );
+    }
+    for number in [-1_000_000_000_001, 1_000_000_000_001, i64::MIN, i64::MAX] {
+        assert_eq!(
+            Amount::from_ten_thousandths(number),
+            Err(AmountError::OutOfRange)
+        );
+    }
+    assert!(AmountError::NoNumber
+        .to_string()
+        .starts_with("no decimal number"));
+    assert!(AmountError::TooManyPlaces
+        .to_string()
+        .contains("at most four"));
+    assert!(AmountError::OutOfRange
+        .to_string()
+        .contains("from -100,000,000 to 100,000,000"));
+}
+
+#[test]
+fn amounts_there_and_back() {
+    let most = Amount::MAX.ten_thousandths();
+    let (mut numbers, mut state): (Vec<i64>, u64) = ((-100_000..=100_000).collect(), 1);
+    numbers.extend((most - 30_000..=most).flat_map(|number| [number, -number]));
+    for _ in 0..100_000 {
+        state = state
+            .wrapping_mul(6_364_136_223_846_793_005)
+            .wrapping_add(1_442_695_040_888_963_407);
+        numbers.push((state >> 20) as i64 % (most + 1) * [1, -1][state as usize >> 63]);
+    }
+    for number in numbers {
+        let text = amount(number).to_string();
+        assert_eq!(text.parse(), Ok(amount(number)), "{text}");
+        assert_eq!(text, Total::from_ten_thousandths(number).to_string());
+        // no text of the same amount is shorter
+        assert!(!text.contains('.') || !text.ends_with('0'), "{text}");
+        assert!(
+            text == "0" || !text.trim_start_matches('-').starts_with("00") && text != "-0",
+            "{text}"
+        );
+    }
+    assert!(amount(-1) < amount(0) && Amount::MIN < Amount::MAX);
+    assert_eq!(Amount::default(), amount(0));
+}
+
+#[test]
+fn sums_and_cents() {
+    for (number, cents, text) in [
+        (0, 0, "0.00"),
+        (49, 0, "0.00"),
+        (50, 0, "0.00"),
+        (51, 1, "0.01"),
+        (150, 2, "0.02"),
+        (250, 2, "0.02"),
+        (-49, 0, "0.00"),
+        (-50, 0, "0.00"),
+        (-51, -1, "-0.01"),
+        (-150, -2, "-0.02"),
+        (-250, -2, "-0.02"),
+        (123_450, 1_234, "12.34"),
+        (123_550, 1_236, "12.36"),
+        (1_000_000_000_000_000, 10_000_000_000_000, "100000000000.00"),
+        (i64::MAX, 92_233_720_368_547_758, "922337203685477.58"),
+        (i64::MIN, -92_233_720_368_547_758, "-922337203685477.58"),
+    ] {
+        let total = Total::from_ten_thousandths(number);
+        assert_eq!(
+            (total.cents().number(), total.cents().to_string()),
+            (cents, text.to_string())
+        );
+        assert_eq!(words::to_cents(number), cents);
+    }
+    assert_eq!(amount(150).cents(), Total::from(amount(150)).cents());
+    let last = Total::from_ten_thousandths(i64::MAX);
+    assert_eq!(last.to_string(), "922337203685477.5807");
+    assert_eq!(
+        Total::from_ten_thousandths(i64::MIN).to_string(),
+        "-922337203685477.5808"
+    );
+    assert_eq!(last.checked_add(amount(1).into()), None);
+    assert_eq!(
+        last.checked_add(amount(-1).into())
+            .map(Total::ten_thousandths),
+        Some(i64::MAX - 1)
+    );
+}
+
+#[test]
+fn a_card_and_its_invoices() {
+    let (pool, items) = (pool(), lanes());
+    let amounts = [123_450, -12_500, 9_000].map(amount);
+    let card = RateCard::new(&pool, &items, &amounts);
+    assert_eq!(
+        (card.check(), card.items(), card.amounts()),
+        (Ok(()), &items[..], &amounts[..])
+    );
+    let rate = |key: &[u8]| card.rate(key).unwrap();
+    assert_eq!(
+        (rate(&[4]), rate(&[5]), rate(&[11])),
+        (Some(amounts[0]), Some(amounts[1]), Some(amounts[2]))
+    );
+    assert_eq!(
+        (rate(&[]), rate(&[10]), rate(&[4; 256])),
+        (None, None, Some(amounts[0]))
+    );
+
+    let invoice = card
+        .invoice(&[at(4), at(11), at(12), at(7), at(10)])
+        .unwrap();
+    assert_eq!(
+        (
+            invoice.sum.to_string(),
+            invoice.without_rate,
+            invoice.cents.to_string()
+        ),
+        ("11.995".to_string(), 2, "12.00".to_string())
+    );
+    let twice = card.invoice(&[at(7), at(12), at(7), at(12)]).unwrap();
+    assert_eq!(
+        (twice.sum, twice.without_rate),
+        (Total::from_ten_thousandths(-25_000), 2)
+    );
+    assert_eq!(card.invoice(&[]), Ok(Invoice::default()));
+    // keys of no byte and of several, wherever they stand
+    let keys =
+        [(0, 0), (256, 0), (4, 2), (3, 200)].map(|(offset, length)| KeyAt { offset, length });
+    let invoice = card.invoice(&keys).unwrap();
+    assert_eq!(
+        (invoice.sum.ten_thousandths(), invoice.without_rate),
+        (2 * 123_450, 2)
+    );
+    // what is lent is 0 where there is no rate
+    let (mut has, mut amount) = (7, 7);
+    let returned = words::rate(&[], &[], &[], &[5], &mut has, &mut amount);
+    assert_eq!((returned, has, amount), (0, 0, 0));
+    // the empty card
+    let none = RateCard::new(&[], &[], &[]);
+    assert_eq!(none.rate(&[]), Ok(None));
+    assert_eq!(
+        none.invoice(&[KeyAt::default(); 3]).unwrap().without_rate,
+        3
+    );
+}
+
+#[test]
+fn a_rate_of_nothing_is_a_rate() {
+    let (pool, items) = (pool(), lanes());
+    let amounts = [0, 1, -1].map(amount);
+    let card = RateCard::new(&pool, &items, &amounts);
+    assert_eq!(card.rate(&[4]), Ok(Some(amounts[0])));
+    assert_eq!(card.rate(&[10]), Ok(None));
+    let invoice = card.invoice(&[at(4), at(4)]).unwrap();
+    assert_eq!((invoice.sum, invoice.without_rate), (Total::default(), 0));
+    let (mut has, mut amount) = (7, 7);
+    let (words, numbers) = (words::of_items(&items), words::of_amounts(&amounts));
+    let returned = words::rate(&pool, words, numbers, &[4], &mut has, &mut amount);
+    assert_eq!((returned, has, amount), (0, 1, 0));
+}
+
+#[test]
+fn the_last_of_many_items_is_found() {
+    let pool: Vec<u8> = (0..2_048u16).flat_map(u16::to_be_bytes).collect();
+    let item = |number: u32| {
+        Item::key(KeyAt {
+            offset: 2 * number,
+            length: 2,
+        })
+    };
+    let items: Vec<Item> = (0..2_048).map(item).collect();
+    let amounts: Vec<Amount> = (0..2_048).map(amount).collect();
+    for number in [0u16, 255, 256, 1_000, 2_047] {
+        let key = number.to_be_bytes();
+        assert_eq!(
+            find_item(&pool, &items, &key),
+            Ok(Some(usize::from(number)))
+        );
+        let rate = RateCard::new(&pool, &items, &amounts).rate(&key);
+        assert_eq!(rate, Ok(Some(amount(number.into()))));
+    }
+    assert_eq!(find_item(&pool, &items, &[8, 0]), Ok(None));
+}
+
+#[test]
+fn cards_and_invoices_at_the_limits() {
+    let (pool, items) = (pool(), lanes());
+    let card =
+        |amounts: [Amount; 3]| RateCard::new(&pool, &items, &amounts).invoice(&[at(1); 1_000]);
+    for (most, sum) in [
+        (Amount::MAX, 1_000_000_000_000_000),
+        (Amount::MIN, -1_000_000_000_000_000),
+    ] {
+        let invoice = card([most; 3]).unwrap();
+        assert_eq!(
+            (
+                invoice.sum.ten_thousandths(),
+                invoice.without_rate,
+                invoice.cents.number()
+            ),
+            (sum, 0, sum / 100)
+        );
+    }
+    let amounts = [amount(1); 3];
+    let card = RateCard::new(&pool, &items, &amounts);
+    let refusal = card.invoice(&[at(1); 1_001]).unwrap_err();
+    assert_eq!(
+        (refusal.reason(), refusal.side, refusal.index),
+        (Reason::TooManyKeys, Side::Theirs, 0)
+    );
+    assert_eq!(
+        refusal.to_string(),
+        "an invoice has at most 1,000 keys (refusal 15)"
+    );
+    let long = KeyAt {
+        offset: 0,
+        length: 256,
+    };
+    let refusal = card.invoice(&[at(1), long]).unwrap_err();
+    assert_eq!(refusal.to_string(), "their item or invoice key 1: a key is longer than 255 bytes or reaches past the pool (refusal 2)");
+    let refusal = RateCard::new(&pool, &items, &amounts[..2])
+        .rate(&[1])
+        .unwrap_err();
+    assert_eq!(
+        (refusal.reason(), refusal.side, refusal.index),
+        (Reason::Malformed, Side::Ours, 0)
+    );
+    assert!(refusal.to_string().contains("not one amount for each item"));
+    let outside = Refusal::from_number(14 + 65_536).unwrap_err();
+    assert_eq!(outside.reason(), Reason::AmountOutside);
+    assert_eq!(
+        outside.to_string(),
+        "our amount 1: it is not from -100,000,000 to 100,000,000 currency units (refusal 14)"
+    );
+}
+
+#[test]
+fn a_refused_card_leaves_what_is_lent() {
+    let refusal = |number, side: u64, index: u64| number + 256 * side + 65_536 * index;
+    let (pool, long) = (pool(), vec![0; 65_537]);
+    let key = |byte| [0, 0, byte, 1, 0, 0];
+    let (unknown, past, turned) = (
+        [10, 0, 0, 0, 0, 0],
+        [0, 0, 256, 1, 0, 0],
+        [2, 0, 5, 1, 3, 1],
+    );
+    let words = |items: &[[u32; 6]]| items.concat();
+    let most = 1_000_000_000_000;
+    let out = [most + 1; 2_049];
+    // each fault beside those that stand behind it, of which the last are the keys'
+    let (odd, many, far) = (vec![9; 2_003], vec![9; 2_002], [1, 1, 256, 1, 0, 256]);
+    for (pool, words, amounts, refused) in [
+        (&long, words(&[unknown; 2]), &out[..1], refusal(1, 0, 0)),
+        (
+            &pool,
+            words(&[key(5), unknown])[..11].to_vec(),
+            &out[..1],
+            refusal(1, 0, 0),
+        ),
+        (&pool, words(&[key(5); 2_049]), &out[..], refusal(1, 0, 0)),
+        (
+            &pool,
+            words(&[key(5), unknown]),
+            &out[..1],
+            refusal(1, 0, 0),
+        ),
+        (&pool, words(&[key(5), turned]), &out[..3], refusal(1, 0, 0)),
+        (
+            &pool,
+            words(&[key(5), key(5), unknown]),
+            &out[..3],
+            refusal(1, 0, 2),
+        ),
+        (
+            &pool,
+            words(&[key(5), key(5), past]),
+            &out[..3],
+            refusal(2, 0, 2),
+        ),
+        (
+            &pool,
+            words(&[key(5), key(5), turned]),
+            &out[..3],
+            refusal(3, 0, 2),
+        ),
+        (
+            &pool,
+            words(&[key(1), key(5), key(5)]),
+            &out[..3],
+            refusal(4, 0, 2),
+        ),
+        (
+            &pool,
+            words(&[key(1), key(5)]),
+            &out[..2],
+            refusal(14, 0, 0),
+        ),
+        (
+            &pool,
+            words(&[key(1), key(5)]),
+            &[most, -most - 1],
+            refusal(14, 0, 1),
+        ),
+        (
+            &pool,
+            words(&[key(1), key(5)]),
+            &[-most, i64::MAX],
+            refusal(14, 0, 1),
+        ),
+        (
+            &pool,
+            words(&[key(1), key(5)]),
+            &[i64::MIN, 0],
+            refusal(14, 0, 0),
+        ),
+    ] {
+        let (mut has, mut amount) = (7, 7);
+        let returned = words::rate(pool, &words, amounts, &[1; 300], &mut has, &mut amount);
+        assert_eq!((returned, has, amount), (refused, 7, 7));
+        for keys in [&[][..], &odd, &many, &far] {
+            assert_eq!(invoiced(pool, &words, amounts, keys), (refused, LENT));
+        }
+    }
+    let (words, amounts) = (words(&[key(1), key(5)]), [most, -most]);
+    for (keys, refused) in [
+        (&odd[..], refusal(1, 1, 0)),
+        (&[1, 1, 256, 1, 0], refusal(1, 1, 0)),
+        (&many, refusal(15, 1, 0)),
+        (&far, refusal(2, 1, 1)),
+        (&[5, 1, 1, 1, 0, 256], refusal(2, 1, 2)),
+        (&[257, 0, 0, 256], refusal(2, 1, 0)),
+        (&[u32::MAX, u32::MAX], refusal(2, 1, 0)),
+        (&[u32::MAX, 1], refusal(2, 1, 0)),
+        (&[2, 255], refusal(2, 1, 0)),
+    ] {
+        assert_eq!(invoiced(&pool, &words, &amounts, keys), (refused, LENT));
+    }
+    let whole = [[1, 1]; 999].concat();
+    let answer = words::Invoice {
+        sum: 999 * most,
+        without: 1,
+        cents: 999 * most / 100,
+    };
+    assert_eq!(
+        invoiced(&pool, &words, &amounts, &[&whole[..], &[256, 0]].concat()),
+        (0, answer)
+    );
+}
+
+const LENT: words::Invoice = words::Invoice {
+    sum: 7,
+    without: 7,
+    cents: 7,
+};
+
+/// What the call returns, and leaves of what is lent.
+fn invoiced(pool: &[u8], words: &[u32], amounts: &[i64], keys: &[u32]) -> (u64, words::Invoice) {
+    let mut lent = LENT;
+    let returned = words::invoice(pool, words, amounts, keys, &mut lent);
+    (returned, lent)
+}
+
 #[test]
 fn positions() {
     let mut pool = Pool::new();

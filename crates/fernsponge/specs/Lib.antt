@@ -3,3 +3,4 @@ pub mod Calls
 pub mod Intersect
 pub mod Positions
 pub mod Plans
+pub mod Cards

@@ -8,3 +8,5 @@ pub use Rattle.item_check.proofs.Accepted.{AllSound, Following, InOrder
 pub use Rattle.item_check.proofs.Accepted.{answers, sound-parts}
 -- a list at an index
 pub use Rattle.item_check.proofs.Scans.{items-end, items-more, fault-passes, fault-refused}
+-- its items stand one above another, and at most one of them holds a key
+pub use Rattle.item_check.proofs.Strict.{Strict, later-starts, later-ends, holds-once}

@@ -1,5 +1,6 @@
 pub mod Tests
 pub mod Scans
 pub mod Accepted
+pub mod Strict
 pub mod Apart
 pub mod Laws

@@ -56,7 +56,8 @@ pub fn check_words(pool: &[u8], words: &[u32], side: u32) -> Checked
     }
 }
 
-fn check_whole(pool: &[u8], words: &[u32], side: u32) -> Checked
+// inner: the same of a list whose shape is checked already.
+pub fn check_whole(pool: &[u8], words: &[u32], side: u32) -> Checked
     ensures { λ r. ⌜ verdictOf r ≡ wholeVerdict (now (pool .entry)) (now (words .entry)) side ⌝ }
 {
     let count = words.len() / ITEM_SIZE;
@@ -210,8 +211,8 @@ fn is_malformed(item: ItemWords) -> bool
         | (!has_end(item.code) & is_written(end))
 }
 
-// Too long, or reaching past the pool.
-fn is_out(pool: &[u8], key: KeyAt) -> bool
+// inner: too long, or reaching past the pool.
+pub fn is_out(pool: &[u8], key: KeyAt) -> bool
     ensures { λ r. ⌜ r ≡ keyOut (now (pool .entry)) key ⌝ }
 {
     (MOST_KEY < key.length) | (pool.len() < key.offset as usize + key.length as usize)
