@@ -3,6 +3,8 @@ GROVEDB_SRC ?= ../shared/docs/src
 RUN ?= long $(CURDIR)/docs/COMPARISON.md
 # How many invoices Python's decimal adds up again.
 CENTS ?= 1000000
+# How many covers and uncovers of stored lists PostgreSQL's multiranges make again.
+MULTIRANGES ?= 200000
 # What the program is shown on, and how many damaged files it is tried on.
 FILE ?= samples/document.krl
 COUNT ?= 10000
@@ -11,7 +13,7 @@ EARLIER ?=
 CARGO := env -u MAKEFLAGS -u MFLAGS cargo
 COMPARE = GROVEDB_SRC="$(GROVEDB_SRC)" $(CARGO) run --quiet --release --offline --manifest-path compare/Cargo.toml --
 
-.PHONY: run test prove beside lib compare compare-short cents bench record attack attack-short link-short link-c link-rust
+.PHONY: run test prove beside lib compare compare-short cents multiranges bench record attack attack-short link-short link-c link-rust
 
 # The program krl on a file. What is proved and unchanged is not proved again.
 run: target/krl.log
@@ -40,7 +42,7 @@ beside:
 	@[ ! -x target/bin/krl ] || touch target/krl.log
 	@{ $(MAKE) --no-print-directory compare-short && $(MAKE) --no-print-directory link-short && $(MAKE) --no-print-directory attack-short; } \
 	    >target/beside.log 2>&1 || { cat target/beside.log; echo "make: what is tried beside the proofs failed"; exit 1; }
-	@grep -E 'calls in all|^decimal_cents:|^attack:|left out' target/beside.log
+	@grep -E 'calls in all|^decimal_cents:|^multiranges:|^attack:|left out' target/beside.log
 
 # The program on files that are damaged in many ways.
 attack: target/krl.log
@@ -61,10 +63,12 @@ lib:
 	@cp target/native/libfernsponge.a target/lib/
 	@cp include/fernsponge.h target/include/
 
-# Our answers held against the Rust's, some five minutes; the table goes to docs/COMPARISON.md. Then our sums and cents against Python's.
+# Our answers held against the Rust's, some five minutes; the table goes to docs/COMPARISON.md. Then our sums and cents against Python's, and our
+# stored lists against PostgreSQL's.
 compare: lib
 	$(COMPARE) $(RUN)
 	@$(MAKE) --no-print-directory cents
+	@$(MAKE) --no-print-directory multiranges
 
 # The totals of invoices, added up again and rounded by Python's decimal, where python3 is at hand; first three wrong lines, each of which has to
 # fail: another sum, another number of keys without a rate, half a cent as 1.
@@ -78,10 +82,22 @@ cents: lib
 	    echo "cents: left out, as python3 is not at hand"; \
 	fi
 
+# The lists that covers and uncovers leave, made again by PostgreSQL's multiranges, where python3 and PostgreSQL are at hand; first four wrong
+# lines, each of which has to fail: touching pairs left apart, after and before, a total that is added whole, the middle uncovered without a
+# second pair.
+multiranges: lib
+	@if command -v python3 >/dev/null; then \
+	    printf '%s\n' '0 5;cover;5 7;0 5 5 7;7' '0 2 2 5;cover;7 9;0 5 7 9;7' '0 5;cover;3 9;0 9;11' '0 5;uncover;2 3;0 2;2' \
+	        | tools/multiranges 4 | grep -E '; 4 failures|left out' >/dev/null || { echo "multiranges: a wrong line is accepted"; exit 1; }; \
+	    $(COMPARE) multiranges $(MULTIRANGES) | tools/multiranges $(MULTIRANGES); \
+	else \
+	    echo "multiranges: left out, as python3 is not at hand"; \
+	fi
+
 # The same on a sample, where cargo and the Rust are at hand.
 compare-short:
 	@if command -v cargo >/dev/null && [ -d "$(GROVEDB_SRC)" ]; then \
-	    $(MAKE) --no-print-directory compare RUN=short CENTS=30000; \
+	    $(MAKE) --no-print-directory compare RUN=short CENTS=30000 MULTIRANGES=2000; \
 	else \
 	    echo "compare-short: left out, as cargo or the Rust's sources (GROVEDB_SRC=$(GROVEDB_SRC)) are not at hand"; \
 	fi
@@ -107,6 +123,8 @@ link-c: lib
 	target/plan | diff - c/plan.stdout
 	cc -std=c11 -Wall -Wextra -Wpedantic -Werror -Itarget/include c/card.c target/lib/libfernsponge.a -o target/card
 	target/card | diff - c/card.stdout
+	cc -std=c11 -Wall -Wextra -Wpedantic -Werror -Itarget/include c/stored.c target/lib/libfernsponge.a -o target/stored
+	target/stored | diff - c/stored.stdout
 
 link-rust: lib
 	$(CARGO) test --quiet --offline --manifest-path rust/Cargo.toml

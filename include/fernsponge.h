@@ -18,14 +18,15 @@
  *    6  the result needs more room than was lent
  *    7  a position key that is not 8 bytes
  *    8  proved positions that do not ascend strictly, spans that are turned round or start below the end of the one before
- *    9  intervals that are not canonical: nonempty, ascending, each end below the next start
+ *    9  intervals that are not canonical: nonempty, ascending, each end below the next start; a stored total that is not the number of the
+ *       rows that they cover
  *   14  an amount of a card below -10^12 or above 10^12
  *   15  an invoice of more than 1,000 keys
  *   16  windows of at most 0 rows
  *
  * Side 0 is ours, 1 theirs; position items, intervals, and a card's items and amounts are side 0, proved positions, spans, windows of a plan, an
- * item to insert and the keys of an invoice side 1. The index is that of the item, amount, key, pair or position; the pool, the shape of a
- * list, a card or an invoice, want of room, and refusals 15 and 16 have index 0.
+ * item to insert and the keys of an invoice side 1. The index is that of the item, amount, key, pair or position; a wrong stored total has the
+ * number of pairs; the pool, the shape of a list, a card or an invoice, want of room, and refusals 15 and 16 have index 0.
  *
  * Keys stand in one pool of bytes, and an item names its keys by offset and length. An item is six words: code, wrapper, start offset, start
  * length, end offset, end length; the words of a key that its kind has not are 0. An item that may be missing is seven words: 1 and its six, or
@@ -170,9 +171,10 @@ uint64_t fernsponge_invoice(const uint8_t *pool, size_t pool_length, const uint3
 /* The position of a key of 8 bytes, the first the greatest. */
 uint64_t fernsponge_be_u64(const uint8_t *key, size_t key_length, uint64_t *position);
 
-/* The positions below count that items cover, as canonical pairs at the front of out; *pairs is how many. */
+/* The positions below count that items cover, as canonical pairs at the front of out; *pairs is how many pairs, and *total how many positions
+ * they cover: together a stored list (below). */
 uint64_t fernsponge_from_query_items(const uint8_t *pool, size_t pool_length, const uint32_t *items, size_t items_length, uint64_t count,
-                                     uint64_t *out, size_t out_length, uint64_t *pairs);
+                                     uint64_t *out, size_t out_length, uint64_t *pairs, uint64_t *total);
 
 /* 1 where a position is covered. */
 uint64_t fernsponge_contains(const uint64_t *intervals, size_t intervals_length, uint64_t position, uint32_t *yes);
@@ -182,6 +184,29 @@ uint64_t fernsponge_len(const uint64_t *intervals, size_t intervals_length, uint
 
 /* 1 where none is. */
 uint64_t fernsponge_is_empty(const uint64_t *intervals, size_t intervals_length, uint32_t *yes);
+
+/* A stored list is a buffer of words, how many pairs stand at its front, and beside it the total of the rows that they cover, which no one has to
+ * count again. from_query_items makes one; the other functions on intervals are lent its first 2 * pairs words. Its room is words_length / 2 pairs;
+ * an odd last word is no fault, and stays.
+ *
+ * Each of the next three functions checks the whole list before all else, once over its pairs, O(pairs): more pairs than room are refused with 1,
+ * the first pair that is not canonical with 9 and its index, and then a total that is not the number of covered rows with 9 and the number of
+ * pairs as index. No range is clipped: it may end at UINT64_MAX, a row that is never covered itself. */
+
+/* The total of a stored list, which is the one that was passed: for who brings words of their own, as from a file. */
+uint64_t fernsponge_stored_total(const uint64_t *words, size_t words_length, size_t pairs, uint64_t total, uint64_t *rows);
+
+/* Covers the rows from start on, below end: the front of words is then the canonical list of these and of all that were covered; *new_pairs is
+ * how many pairs it has, and *new_total how many rows it covers. Freed words up to the old number of pairs become 0, later ones stay. A start that
+ * is not below its end changes nothing, and the old numbers are told. 6 exactly where the new list has more pairs than room, so that a range which
+ * merges pairs passes in a full buffer. Past the check it costs O(log pairs) to find the place, and the pairs that are touched or moved. */
+uint64_t fernsponge_cover(uint64_t *words, size_t words_length, size_t pairs, uint64_t total, uint64_t start, uint64_t end,
+                          uint64_t *new_pairs, uint64_t *new_total);
+
+/* Uncovers them: the list of all rows that were covered and are not among them, in the same way and at the same cost. Where a pair is cut in its
+ * middle, there is one pair more. */
+uint64_t fernsponge_uncover(uint64_t *words, size_t words_length, size_t pairs, uint64_t total, uint64_t start, uint64_t end,
+                            uint64_t *new_pairs, uint64_t *new_total);
 
 /* A report is its total, how many examples it has, and their places: the smallest positions that are off, then zeros. */
 

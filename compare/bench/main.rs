@@ -6,8 +6,10 @@ mod card;
 mod chart;
 mod lists;
 mod others;
+mod pairs;
 mod rates;
 mod report;
+mod stored;
 mod sweep;
 mod timing;
 
@@ -74,6 +76,8 @@ fn measure(sizes: &[usize]) -> Measured {
         building: others::building(),
         mismatches: others::mismatches(),
         planning: others::planning(),
+        stored: stored::run(),
+        reading: stored::reading(),
         rates: sizes
             .iter()
             .max()

@@ -122,20 +122,23 @@ pub fn building() -> Vec<Line> {
             let words: Vec<u32> = order.iter().flat_map(|at| item(*at)).collect();
             let items: Vec<QueryItem> = words.chunks(6).filter_map(|it| read(it, &pool)).collect();
             let mut out = vec![0; 2 * COUNT as usize];
-            let mut pairs = 0;
+            let [mut pairs, mut total] = [0; 2];
             let mut build = || {
-                fernsponge::from_query_items(&pool, &words, u64::MAX, &mut out, &mut pairs);
-                (out.clone(), pairs)
+                let out = &mut out[..];
+                fernsponge::from_query_items(&pool, &words, u64::MAX, out, &mut pairs, &mut total);
+                (out.to_vec(), pairs, total)
             };
-            let (written, pairs) = build();
+            let (written, pairs, total) = build();
             let told = &written[..2 * pairs as usize];
-            assert_eq!(told, Covered::new(&items, u64::MAX).pairs());
-            let (mut out, mut pairs) = (vec![0; 2 * COUNT as usize], 0);
+            let covered = Covered::new(&items, u64::MAX);
+            assert_eq!((told, total), (&covered.pairs()[..], covered.rows()));
+            let mut out = vec![0; 2 * COUNT as usize];
+            let [mut pairs, mut total] = [0; 2];
             let (pool, words, items) = (&pool[..], &words[..], &items[..]);
             let [ours, rust] = least([
                 calls(move || {
-                    let pool = black_box(pool);
-                    fernsponge::from_query_items(pool, words, u64::MAX, &mut out, &mut pairs)
+                    let (pool, out) = (black_box(pool), &mut out);
+                    fernsponge::from_query_items(pool, words, u64::MAX, out, &mut pairs, &mut total)
                 }),
                 calls(move || Covered::new(black_box(items), u64::MAX)),
             ]);

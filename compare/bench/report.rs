@@ -4,6 +4,7 @@ use crate::{
     lists::{Earlier, Timed},
     others::{Line, Planned},
     rates::Rated,
+    stored::{Changed, Width, CHANGED},
 };
 use compare::table::grouped;
 
@@ -16,6 +17,9 @@ pub struct Measured {
     pub building: Vec<Line>,
     pub mismatches: Vec<Line>,
     pub planning: Vec<Planned>,
+    pub stored: Vec<Changed>,
+    /// the total, counted afresh and read
+    pub reading: [f64; 2],
     pub rates: Vec<Rated>,
 }
 
@@ -36,6 +40,12 @@ impl Measured {
             one.plan = one.plan.min(two.plan);
             one.check = one.check.min(two.check);
             one.missing = one.missing.min(two.missing);
+        }
+        for (one, two) in self.stored.iter_mut().zip(other.stored) {
+            one.least(two);
+        }
+        for (one, two) in self.reading.iter_mut().zip(other.reading) {
+            *one = one.min(two);
         }
         for (one, two) in self.rates.iter_mut().zip(other.rates) {
             one.invoice = one.invoice.least(two.invoice);
@@ -73,6 +83,7 @@ the list that it drains nor freeing what it answers is timed.
 The reference for lists is a sweep with two indexes, written by hand in Rust and unproved (`compare/bench/sweep.rs`), which takes and gives the
 same words: *trusting* takes accepted lists and enough room for granted, *checking* refuses what our call refuses. For keys it is the standard
 library's order of slices. For rate cards it is a binary search by hand (`compare/bench/card.rs`), which checks and refuses as our calls do.
+For stored lists it is a `Vec` of pairs with a total beside it (`compare/bench/pairs.rs`), which checks nothing.
 
 ";
 
@@ -120,6 +131,35 @@ rows / W + intervals. Where it is exactly enough the windows are counted first: 
 
 | | plan_refetch | check_plan | missing_from | plan_refetch / missing_from |
 |---|--:|--:|--:|--:|
+";
+
+const STORED: &str = "
+## Stored lists
+
+The Rust has none. 1,000 covers and uncovers, either by chance, of ranges by chance, in lists whose intervals are about 50 rows wide, with gaps as
+wide: ranges much shorter than an interval, about as wide as an interval and a gap, and about ten of both. So that the lists stay about as long,
+each has as many changes as a hundredth of its pairs, and then another one has its turn; 16 such sequences take turns, and copying the lists is not
+timed. The reference finds the place by `partition_point`, moves the rest by `insert` or `drain`, and changes its total by the rows that change; it
+checks nothing. Each of our calls checks the whole list and its total before. *The check*: `stored_total` as often as it is in the calls, on the
+lists as they are after half of their changes. *Without it*: the time of our calls less that of the checks, both from this run; as the
+difference of two longer times it swings more than they do, though these rows have four times the runs of the others.
+
+| pairs | ranges | ours | the check | without it | Vec | without it / Vec |
+|--:|---|--:|--:|--:|--:|--:|
+";
+
+const GROWING: &str = "
+One change, by the number of pairs: the check reads all of them, and a change halves them for its place and moves those behind it.
+
+| pairs | ranges | ours | the check | without it | Vec | without it / Vec |
+|--:|---|--:|--:|--:|--:|--:|
+";
+
+const READING: &str = "
+Reading the total of 2,000 pairs: counted afresh, as it was before it was stored, and read where it is stored.
+
+| `fernsponge_len` | `PositionIntervals::len` |
+|--:|--:|
 ";
 
 const RATES: &str = "
@@ -200,6 +240,17 @@ pub fn text(measured: &Measured) -> String {
             two(row.plan / row.missing),
         );
     }
+    text += STORED;
+    for row in measured.stored.iter().filter(|row| row.pairs == 2_000) {
+        text += &changed(row, 1.0);
+    }
+    text += GROWING;
+    let growing = measured.stored.iter();
+    for row in growing.filter(|row| row.width == Width::Step) {
+        text += &changed(row, CHANGED as f64);
+    }
+    let [counted, read] = measured.reading.map(time);
+    text += &format!("{READING}| {counted} | {read} |\n");
     text += RATES;
     for row in &measured.rates {
         text += &format!(
@@ -239,6 +290,18 @@ impl Line {
         let beside = or_dash(both.map(|(ours, reference)| two(ours / reference)));
         format!("| {what} | {ours} | {rust} | {reference} | {ratio} | {beside} |\n")
     }
+}
+
+/// A row of times, each divided by a number.
+fn changed(row: &Changed, by: f64) -> String {
+    let times = [row.ours, row.check, row.unchecked(), row.by_hand];
+    let [ours, check, unchecked, by_hand] = times.map(|of_all| time(of_all / by));
+    format!(
+        "| {} | {} | {ours} | {check} | {unchecked} | {by_hand} | {} |\n",
+        grouped(row.pairs as u64),
+        row.width.name(),
+        two(row.ratio()),
+    )
 }
 
 /// The length of the keys, and whether they differ early.
@@ -361,6 +424,13 @@ fn targets(measured: &Measured) -> Vec<Target> {
             invoices(false),
         ),
         most("and the same invoice in every call", 2.0, invoices(true)),
+        most(
+            "1,000 covers and uncovers in 2,000 pairs, without the check, within 2 times a Vec that does the same",
+            2.0,
+            (measured.stored.iter())
+                .filter(|row| row.pairs == 2_000)
+                .map(|row| (row.ratio(), format!("ranges of {}", row.width.name()))),
+        ),
         least(
             "insertion at least 10 times as fast as the Rust",
             10.0,

@@ -364,6 +364,28 @@ pub fn damage_numbers(random: &mut Random, list: &mut Vec<u64>) {
     }
 }
 
+/// A range whose ends are those of a list or next to them, or any within bounds; sometimes turned round.
+pub fn some_rows(random: &mut Random, list: &[u64], [first, last]: [u64; 2]) -> [u64; 2] {
+    let mut end = || match random.below(16) {
+        0 => random.one_of(&[0, u64::MAX - 1, u64::MAX]),
+        1..=8 if !list.is_empty() => {
+            let near = random.one_of(list);
+            random.one_of(&[near.saturating_sub(1), near, near, near.saturating_add(1)])
+        }
+        _ => first + random.next() % (last - first).max(1),
+    };
+    let [one, other] = [end(), end()];
+    // mostly a few pairs, and not half of all
+    let near = match random.below(4) {
+        0 => other,
+        _ => one.saturating_add(random.next() % ((last - first) / 16).max(4)),
+    };
+    match random.below(16) {
+        0 => [one.max(near), one.min(near)],
+        _ => [one.min(near), one.max(near)],
+    }
+}
+
 /// So many ascending keys of one length, up to 8,192, that all begin alike: zeros, then two other bytes, then zeros. Those with the most
 /// zeros come first. They overlap, so that a pool of 65,536 bytes suffices.
 pub fn alike_keys(length: usize, count: usize) -> (Vec<u8>, Vec<[u32; 2]>) {

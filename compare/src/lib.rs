@@ -26,6 +26,7 @@ mod list_differences;
 mod many;
 mod many_calls;
 mod many_refused;
+pub mod multiranges;
 mod pair_calls;
 mod plan_calls;
 pub mod plans;
@@ -36,6 +37,8 @@ pub mod random;
 pub mod record;
 mod refusals;
 mod stand_ins;
+pub mod stored;
+mod stored_calls;
 pub mod table;
 pub mod timed;
 
@@ -86,6 +89,8 @@ pub struct Size {
     missing: usize,
     /// the rows over which all plans of three windows are tried
     windowed: usize,
+    /// the rows of which all lists are covered and uncovered by all ranges, and by all two of them where there are four rows fewer
+    stored: usize,
     /// the counts of items at and near the limit that lists are tried with, beside none and one
     counts: &'static [usize],
 }
@@ -105,6 +110,7 @@ pub const SHORT: Size = Size {
     logged: 6,
     missing: 10,
     windowed: 3,
+    stored: 8,
     counts: &[2_049],
 };
 
@@ -123,6 +129,7 @@ pub const LONG: Size = Size {
     logged: 8,
     missing: 12,
     windowed: 5,
+    stored: 12,
     counts: &[2_047, 2_048, 2_049],
 };
 
@@ -144,6 +151,7 @@ pub fn run(size: &Size) -> Vec<table::Row> {
     rows.extend(plan_calls::run(random, size));
     rows.extend(position_differences::run());
     rows.extend(card_calls::run(random, size));
+    rows.extend(stored_calls::run(random, size));
     rows
 }
 

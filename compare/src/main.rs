@@ -1,8 +1,9 @@
 //! `compare short` takes seconds, `compare long` is the whole; with a FILE besides, the table is written there too. Exit status 1 where
 //! anything disagrees. `compare record FOLDER` writes a sample of the Rust's answers, for programs of ours to replay. `compare cents COUNT`
-//! writes so many invoices with our totals, one a line, for tools/decimal_cents to hold.
+//! writes so many invoices with our totals, one a line, for tools/decimal_cents to hold; `compare multiranges COUNT` so many changes of stored
+//! lists with what our calls leave, for tools/multiranges.
 
-use compare::{invoices, record, run, table, Size, LONG, SEED, SHORT};
+use compare::{invoices, multiranges, record, run, table, Size, LONG, SEED, SHORT};
 use std::{env, io, path::Path, process::ExitCode};
 
 fn main() -> ExitCode {
@@ -15,6 +16,10 @@ fn main() -> ExitCode {
         ["record", folder] => record::run(Path::new(folder)).map(|()| 0),
         ["cents", count] => match count.parse() {
             Ok(count) => invoices::write(count, &mut io::stdout().lock()).map(|()| 0),
+            Err(_) => return usage(),
+        },
+        ["multiranges", count] => match count.parse() {
+            Ok(count) => multiranges::write(count, &mut io::stdout().lock()).map(|()| 0),
             Err(_) => return usage(),
         },
         _ => return usage(),
@@ -33,7 +38,7 @@ fn main() -> ExitCode {
 }
 
 fn usage() -> ExitCode {
-    eprintln!("usage: compare short|long [FILE]|record FOLDER|cents COUNT");
+    eprintln!("usage: compare short|long [FILE]|record FOLDER|cents COUNT|multiranges COUNT");
     ExitCode::from(2)
 }
 

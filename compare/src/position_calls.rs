@@ -242,33 +242,41 @@ impl All {
                 let pool = hexadecimal(pool);
                 format!("{words:?} in {pool}, {count} rows, {room} numbers lent")
             },
-            (lent, WIDE_MARK),
-            |(out, pairs)| fernsponge::from_query_items(pool, words, count, out, pairs),
+            (lent, WIDE_MARK, WIDE_MARK),
+            |(out, pairs, total)| {
+                fernsponge::from_query_items(pool, words, count, out, pairs, total)
+            },
             answer,
-            |returned, (out, pairs)| {
+            |returned, (out, pairs, total)| {
                 matches!(number, 0 | 5 | 7).then(|| Held {
-                    ours: told(returned, written(out, *pairs).to_vec()),
+                    ours: told(returned, (written(out, *pairs).to_vec(), *total)),
                     other: rust::from_query_items(&items(words, pool), count),
                 })
             },
         );
     }
 
-    /// Whether the written pairs hold a position: where it is below the count, and document 01's table has an item that holds it.
+    /// Whether the written pairs hold a position: where it is below the count, and document 01's table has an item that holds it. And whether
+    /// what is written is a stored list, with the total of its rows.
     fn position(&mut self, pool: &[u8], words: &[u32], count: u64, asked: u64) {
         if refusals::position_items(pool, words).is_err() {
             return;
         }
         let mut out = wide_lent(words.len());
-        let mut pairs = WIDE_MARK;
-        fernsponge::from_query_items(pool, words, count, &mut out, &mut pairs);
+        let (mut pairs, mut total) = (WIDE_MARK, WIDE_MARK);
+        fernsponge::from_query_items(pool, words, count, &mut out, &mut pairs, &mut total);
+        let mut rows = WIDE_MARK;
+        let accepted = fernsponge::stored_total(&out, pairs as usize, total, &mut rows);
         let held = asked < count && list_holds(words, pool, &asked.to_be_bytes());
         self.table.hold(
             || {
                 let pool = hexadecimal(pool);
                 format!("{words:?} in {pool}, {count} rows, asked for {asked}")
             },
-            Against::paper(paper::contains(written(&out, pairs), asked), held),
+            Against::paper(
+                (paper::contains(written(&out, pairs), asked), accepted, rows),
+                (held, 0, paper::len(written(&out, pairs))),
+            ),
         );
     }
 }

@@ -85,8 +85,10 @@ fn wrapped() -> Row {
     ];
     for (wrapper, text) in (1..).zip(texts) {
         let (pool, words) = ([0; 8], [0, wrapper, 0, 8, 0, 0]);
-        let (mut out, mut pairs) = (wide_lent(2), WIDE_MARK);
-        let returned = fernsponge::from_query_items(&pool, &words, 1, &mut out, &mut pairs);
+        let mut out = wide_lent(2);
+        let [mut pairs, mut total] = [WIDE_MARK; 2];
+        let returned =
+            fernsponge::from_query_items(&pool, &words, 1, &mut out, &mut pairs, &mut total);
         let item = item_of(words, &pool).expect("the words are an item's");
         let rust = match PositionIntervals::from_query_items(&[item], 1) {
             Ok(intervals) => format!("{intervals:?}"),

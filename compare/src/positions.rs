@@ -37,13 +37,13 @@ pub mod paper {
         refusals::{self, refuse, Checked},
     };
 
-    /// What a query leaves in the lent numbers, and how many pairs: those merged away are 0, later numbers stay.
+    /// What a query leaves in the lent numbers, how many pairs, and how many rows they cover: pairs merged away are 0, later numbers stay.
     pub fn from_query_items(
         pool: &[u8],
         words: &[u32],
         count: u64,
         lent: &[u64],
-    ) -> Checked<(Vec<u64>, u64)> {
+    ) -> Checked<(Vec<u64>, u64, u64)> {
         refusals::position_items(pool, words)?;
         let ranges = ranges(pool, words, count);
         if ranges.len() > lent.len() / 2 {
@@ -55,7 +55,7 @@ pub mod paper {
         for (at, [start, end]) in pairs.iter().enumerate() {
             (out[2 * at], out[2 * at + 1]) = (*start, *end);
         }
-        Ok((out, pairs.len() as u64))
+        Ok((out, pairs.len() as u64, len(pairs.as_flattened())))
     }
 
     /// The ranges of accepted items that are not empty, clipped to the count.
@@ -188,10 +188,10 @@ pub mod rust {
     use crate::position_intervals::PositionMismatch;
     use std::collections::BTreeSet;
 
-    /// The pairs of a query, or document 01's number for the text that it is refused with: 5 or 7.
-    pub fn from_query_items(items: &[QueryItem], count: u64) -> Result<Vec<u64>, u64> {
+    /// The pairs of a query and their rows, or document 01's number for the text that it is refused with: 5 or 7.
+    pub fn from_query_items(items: &[QueryItem], count: u64) -> Result<(Vec<u64>, u64), u64> {
         match PositionIntervals::from_query_items(items, count) {
-            Ok(intervals) => Ok(pairs(&intervals)),
+            Ok(intervals) => Ok((pairs(&intervals), intervals.len())),
             Err(error) if text(&error).starts_with("position key must be") => Err(7),
             Err(error) if text(&error).starts_with("Aggregate") => Err(5),
             Err(error) => panic!("the Rust refuses with {error:?}"),
@@ -207,7 +207,7 @@ pub mod rust {
     /// The position of a key, as the end of the positions below it.
     pub fn be_u64(key: &[u8]) -> Result<u64, u64> {
         let below = QueryItem::RangeTo(..key.to_vec());
-        let pairs = from_query_items(&[below], u64::MAX)?;
+        let (pairs, _) = from_query_items(&[below], u64::MAX)?;
         Ok(pairs.get(1).copied().unwrap_or(0))
     }
 

@@ -782,7 +782,7 @@ impl Sample {
     fn query(&mut self, list: &[Words], count: u64, pool: &[u8]) {
         let words = list.concat();
         let told = match position::from_query_items(&items(&words, pool), count) {
-            Ok(pairs) => pairs
+            Ok((pairs, _)) => pairs
                 .chunks(2)
                 .fold(answer().short(pairs.len() / 2), Bytes::longs),
             Err(number) => {

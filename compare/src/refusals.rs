@@ -3,6 +3,7 @@
 use crate::{
     boundaries::{bare, paper, Boundary, EXCLUSIVE_END},
     items::{has_end, has_start, keys, same, six, Words},
+    positions,
 };
 
 pub const MOST_ITEMS: usize = 2_048;
@@ -204,6 +205,19 @@ pub fn intervals(words: &[u64]) -> Checked<()> {
         }
     }
     Ok(())
+}
+
+/// A stored list of so many pairs: 1 for more than its words have, 9 as for intervals, and then 9 for another total than that of its rows.
+pub fn stored(words: &[u64], pairs: usize, total: u64) -> Checked<()> {
+    if pairs > words.len() / 2 {
+        return refuse(1, 0, 0);
+    }
+    let list = &words[..2 * pairs];
+    intervals(list)?;
+    match positions::paper::len(list) == total {
+        true => Ok(()),
+        false => refuse(9, 0, pairs),
+    }
 }
 
 /// Proved positions beside intervals: 8 for the first that is not above the one before it.

@@ -19,6 +19,10 @@ impl Covered {
     pub fn pairs(&self) -> Vec<u64> {
         rust::pairs(&self.0)
     }
+
+    pub fn rows(&self) -> u64 {
+        self.0.len()
+    }
 }
 
 /// How many positions are off, and the smallest of them.

@@ -5,7 +5,11 @@ use crate::{
     refusal::{Reason, Refusal},
     words::{self, Report},
 };
-use std::{fmt, ops::Range};
+use std::{
+    fmt,
+    hash::{Hash, Hasher},
+    ops::Range,
+};
 
 /// The position that a key names: its 8 bytes, the first the greatest.
 ///
@@ -30,7 +34,7 @@ pub struct Span {
     pub end: u64,
 }
 
-/// Covered positions: intervals that are not empty, ascend, and stand apart.
+/// Covered positions: intervals that are not empty, ascend, and stand apart, with the total of the positions in them.
 ///
 /// ```
 /// use fernsponge::{PositionIntervals, Span};
@@ -44,71 +48,206 @@ pub struct Span {
 /// assert_eq!(covered.extra_in(&[7, 20])?.to_string(), "1 positions: [20]");
 /// # Ok::<(), fernsponge::Refusal>(())
 /// ```
-#[derive(Clone, Debug, Default, PartialEq, Eq, Hash)]
+///
+/// More can be covered and uncovered; the total is kept:
+///
+/// ```
+/// use fernsponge::{Item, Pool, PositionIntervals};
+///
+/// let mut pool = Pool::new();
+/// let mut key = |position: u64| pool.add(&position.to_be_bytes());
+/// let items = [Item::range(key(0)?, key(10)?), Item::range(key(20)?, key(24)?)];
+/// let mut covered = PositionIntervals::from_query_items(pool.bytes(), &items, 100)?;
+/// assert_eq!(covered.len(), 14);
+/// covered.cover(8..20)?;
+/// assert_eq!((covered.iter().collect::<Vec<_>>(), covered.len()), (vec![0..24], 24));
+/// covered.uncover(3..5)?;
+/// assert_eq!((covered.iter().collect::<Vec<_>>(), covered.len()), (vec![0..3, 5..24], 22));
+/// # Ok::<(), fernsponge::Refusal>(())
+/// ```
+///
+/// Two of them are equal where their intervals are, whatever room their buffers have.
+#[derive(Default)]
 pub struct PositionIntervals {
-    pairs: Vec<u64>,
+    /// The list stands at the front; what spare words behind it hold is of no account.
+    words: Vec<u64>,
+    pairs: usize,
+    total: u64,
 }
 
 impl PositionIntervals {
     /// The positions below `count` that items cover, whose keys are 8 bytes. Items may stand in any order.
     pub fn from_query_items(pool: &[u8], items: &[Item], count: u64) -> Result<Self, Refusal> {
-        let mut pairs = vec![0; 2 * items.len()];
-        let mut written = 0;
+        let mut words = vec![0; 2 * items.len()];
+        let (mut pairs, mut total) = (0, 0);
         Refusal::from_number(words::from_query_items(
             pool,
             words::of_items(items),
             count,
+            &mut words,
             &mut pairs,
-            &mut written,
+            &mut total,
         ))?;
-        pairs.truncate(2 * written as usize);
-        Ok(Self { pairs })
+        let pairs = pairs as usize;
+        Ok(Self {
+            words,
+            pairs,
+            total,
+        })
     }
 
     /// Of intervals that are so already; others are refused with 9.
     pub fn from_ranges(ranges: &[Range<u64>]) -> Result<Self, Refusal> {
-        let pairs = pairs_of(ranges);
-        let mut empty = 0;
-        Refusal::from_number(words::is_empty(&pairs, &mut empty))?;
-        Ok(Self { pairs })
+        let words = pairs_of(ranges);
+        let mut total = 0;
+        Refusal::from_number(words::len(&words, &mut total))?;
+        let pairs = ranges.len();
+        Ok(Self {
+            words,
+            pairs,
+            total,
+        })
+    }
+
+    /// Of words that were stored: the first so many pairs of them, start and end of each interval, and the total that was stored beside them.
+    /// Words behind these pairs are spare room, and may hold anything.
+    ///
+    /// Everything is checked: more pairs than the words have are refused with 1, the first pair that is not as it should be with 9 and its
+    /// index, and then a total that is not the number of covered positions with 9 and the number of pairs as index.
+    ///
+    /// ```
+    /// use fernsponge::{PositionIntervals, Reason};
+    ///
+    /// let stored = |words: &[u64], pairs, total| PositionIntervals::from_stored(words.to_vec(), pairs, total);
+    /// assert_eq!(stored(&[0, 10, 20, 24], 2, 14)?.len(), 14);
+    /// assert_eq!(stored(&[0, 10, 20, 24], 3, 14).unwrap_err().reason(), Reason::Malformed);
+    /// let touching = stored(&[0, 10, 10, 24], 2, 24).unwrap_err();
+    /// assert_eq!((touching.reason(), touching.index), (Reason::NotCanonical, 1));
+    /// let wrong_total = stored(&[0, 10, 20, 24], 2, 15).unwrap_err();
+    /// assert_eq!((wrong_total.reason(), wrong_total.index), (Reason::NotCanonical, 2));
+    /// # Ok::<(), fernsponge::Refusal>(())
+    /// ```
+    pub fn from_stored(words: Vec<u64>, pairs: usize, total: u64) -> Result<Self, Refusal> {
+        let mut checked = 0;
+        Refusal::from_number(words::stored_total(&words, pairs, total, &mut checked))?;
+        Ok(Self {
+            words,
+            pairs,
+            total: checked,
+        })
+    }
+
+    /// What [`from_stored`](Self::from_stored) takes: the whole buffer, how many pairs stand at its front, and the total.
+    pub fn into_stored(self) -> (Vec<u64>, usize, u64) {
+        (self.words, self.pairs, self.total)
+    }
+
+    /// The words of the intervals alone, start and end of each: what to store, beside the total, which is [`len`](Self::len).
+    pub fn pair_words(&self) -> &[u64] {
+        &self.words[..2 * self.pairs]
     }
 
     /// The intervals, in rising order.
     pub fn iter(&self) -> Ranges<'_> {
-        Ranges { rest: &self.pairs }
+        Ranges {
+            rest: self.pair_words(),
+        }
     }
 
     /// Whether a position is covered.
     pub fn contains(&self, position: u64) -> bool {
         let mut yes = 0;
-        words::contains(&self.pairs, position, &mut yes) == 0 && yes == 1
+        words::contains(self.pair_words(), position, &mut yes) == 0 && yes == 1
     }
 
-    /// How many positions are covered.
+    /// How many positions are covered. It is read and not counted, O(1): the total comes from proved calls alone, which tell it when intervals
+    /// are made or changed, and it is what counting them afresh gives.
     pub fn len(&self) -> u64 {
-        let mut rows = 0;
-        words::len(&self.pairs, &mut rows);
-        rows
+        self.total
     }
 
     /// Whether none is.
     pub fn is_empty(&self) -> bool {
-        self.pairs.is_empty()
+        self.pairs == 0
+    }
+
+    /// Covers the positions of a range too. A range whose start is not below its end changes nothing; one may end at `u64::MAX`, a position
+    /// that is never covered.
+    ///
+    /// The call checks the intervals each time, O(n), though here they cannot be wrong; the change itself is O(log n) and the intervals that are
+    /// touched or moved. Where there is no room for one more interval the buffer grows to twice its length. Only where the system grants no
+    /// memory for that, the call is refused with 6, and nothing has changed.
+    pub fn cover(&mut self, range: Range<u64>) -> Result<(), Refusal> {
+        self.change(words::cover, range)
+    }
+
+    /// Covers the positions of a range no longer, in the same way and at the same cost. Where an interval is cut in its middle, there is one
+    /// more of them.
+    ///
+    /// ```
+    /// use fernsponge::PositionIntervals;
+    ///
+    /// let mut covered = PositionIntervals::from_ranges(&[0..10])?;
+    /// covered.uncover(4..6)?;
+    /// covered.uncover(7..7)?;
+    /// assert_eq!((covered.iter().collect::<Vec<_>>(), covered.len()), (vec![0..4, 6..10], 8));
+    /// # Ok::<(), fernsponge::Refusal>(())
+    /// ```
+    pub fn uncover(&mut self, range: Range<u64>) -> Result<(), Refusal> {
+        self.change(words::uncover, range)
+    }
+
+    /// The change of a call, in more room where it needs some: no change makes more than one pair, so that growing once is enough.
+    fn change(&mut self, call: Change, range: Range<u64>) -> Result<(), Refusal> {
+        match self.change_in_room(call, &range) {
+            Err(refusal) if refusal.reason() == Reason::NoRoom && self.grow() => {
+                self.change_in_room(call, &range)
+            }
+            changed => changed,
+        }
+    }
+
+    /// The same in the room that there is.
+    fn change_in_room(&mut self, call: Change, range: &Range<u64>) -> Result<(), Refusal> {
+        let (mut pairs, mut total) = (0, 0);
+        Refusal::from_number(call(
+            &mut self.words,
+            self.pairs,
+            self.total,
+            range.start,
+            range.end,
+            &mut pairs,
+            &mut total,
+        ))?;
+        self.pairs = pairs as usize;
+        self.total = total;
+        Ok(())
+    }
+
+    /// Makes the buffer twice as long, or long enough for a few pairs, and says whether there was memory for it.
+    fn grow(&mut self) -> bool {
+        let length = self.words.len().saturating_mul(2).max(2 * FEW_PAIRS);
+        let more = length - self.words.len();
+        let granted = self.words.try_reserve_exact(more).is_ok();
+        if granted {
+            self.words.resize(length, 0);
+        }
+        granted
     }
 
     /// Which covered positions are not among the proved ones, which ascend strictly.
     pub fn missing_from(&self, proved: &[u64]) -> Result<PositionMismatch, Refusal> {
-        report(|off| words::missing_from(&self.pairs, proved, off))
+        report(|off| words::missing_from(self.pair_words(), proved, off))
     }
 
     /// Which covered positions lie in none of the spans, each of which starts at or past the end of the one before it.
     pub fn missing_from_spans(&self, spans: &[Span]) -> Result<PositionMismatch, Refusal> {
-        report(|off| words::missing_from_spans(&self.pairs, words::of_spans(spans), off))
+        report(|off| words::missing_from_spans(self.pair_words(), words::of_spans(spans), off))
     }
 
     /// Which proved positions, which ascend strictly, are not covered.
     pub fn extra_in(&self, proved: &[u64]) -> Result<PositionMismatch, Refusal> {
-        report(|off| words::extra_in(&self.pairs, proved, off))
+        report(|off| words::extra_in(self.pair_words(), proved, off))
     }
 
     /// The windows, each of at most `most` rows, that fetch every missing position again: those that are covered and not among the proved
@@ -149,7 +288,7 @@ impl PositionIntervals {
         let mut pairs = zeros(room.saturating_mul(2));
         let mut written = 0;
         Refusal::from_number(words::plan_refetch(
-            &self.pairs,
+            self.pair_words(),
             proved,
             most,
             &mut pairs,
@@ -163,9 +302,15 @@ impl PositionIntervals {
     fn always_enough(&self, most: u64) -> usize {
         let full = self.len().checked_div(most).unwrap_or(0);
         let full = usize::try_from(full).unwrap_or(usize::MAX);
-        full.saturating_add(self.pairs.len() / 2)
+        full.saturating_add(self.pairs)
     }
 }
+
+/// A call that changes a stored list: [`words::cover`] or [`words::uncover`].
+type Change = fn(&mut [u64], usize, u64, u64, u64, &mut u64, &mut u64) -> u64;
+
+/// A buffer that grows has room for so many pairs at least.
+const FEW_PAIRS: usize = 8;
 
 /// A plan that has no more windows takes no more memory than these need.
 const FEW_WINDOWS: usize = 4_096;
@@ -188,6 +333,39 @@ fn report(call: impl FnOnce(&mut Report) -> u64) -> Result<PositionMismatch, Ref
     let mut off = Report::default();
     Refusal::from_number(call(&mut off))?;
     Ok(PositionMismatch { report: off })
+}
+
+// by the list alone: a copy has no spare room, and what spare words hold tells nothing
+
+impl Clone for PositionIntervals {
+    fn clone(&self) -> Self {
+        Self {
+            words: self.pair_words().to_vec(),
+            pairs: self.pairs,
+            total: self.total,
+        }
+    }
+}
+
+impl PartialEq for PositionIntervals {
+    fn eq(&self, other: &Self) -> bool {
+        self.pair_words() == other.pair_words()
+    }
+}
+
+impl Eq for PositionIntervals {}
+
+impl Hash for PositionIntervals {
+    fn hash<H: Hasher>(&self, state: &mut H) {
+        self.pair_words().hash(state);
+    }
+}
+
+impl fmt::Debug for PositionIntervals {
+    fn fmt(&self, f: &mut fmt::Formatter<'_>) -> fmt::Result {
+        f.write_str("PositionIntervals ")?;
+        f.debug_list().entries(self).finish()
+    }
 }
 
 impl<'a> IntoIterator for &'a PositionIntervals {
@@ -268,7 +446,7 @@ impl RefetchPlan {
     ) -> Result<bool, Refusal> {
         let mut yes = 0;
         Refusal::from_number(words::check_plan(
-            &covered.pairs,
+            covered.pair_words(),
             proved,
             most,
             &self.pairs,

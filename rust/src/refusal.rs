@@ -33,7 +33,7 @@ pub enum Reason {
     NoPosition,
     /// 8: proved positions that do not ascend strictly, or spans that are turned round or cross.
     NotAscending,
-    /// 9: intervals that are not ascending, nonempty and apart.
+    /// 9: intervals that are not ascending, nonempty and apart, or a stored total that is not the number of the positions in them.
     NotCanonical,
     /// 14: an amount of a card below -10^12 or above 10^12 ten-thousandths.
     AmountOutside,
@@ -63,8 +63,8 @@ pub struct Refusal {
     pub number: u8,
     /// Whose input is meant.
     pub side: Side,
-    /// The index of the item, amount, key, pair or position that is meant, from 0; the pool, the shape of a list, a card or an invoice, want of
-    /// room, too many keys and windows of no rows have 0.
+    /// The index of the item, amount, key, pair or position that is meant, from 0; a wrong stored total has the number of pairs; the pool, the
+    /// shape of a list, a card or an invoice, want of room, too many keys and windows of no rows have 0.
     pub index: u64,
 }
 
@@ -131,9 +131,10 @@ impl fmt::Display for Refusal {
                 "position or span",
                 "positions ascend strictly, and a span neither ends before its start nor starts before the end of the one before it",
             ),
+            // a stored total has the number of the intervals as index
             Reason::NotCanonical => (
                 "interval",
-                "intervals are not empty, ascend, and stand apart from each other",
+                "intervals are not empty, ascend, and stand apart from each other; where the index is their number, the stored total is not theirs",
             ),
             Reason::AmountOutside => ("amount", "it is not from -100,000,000 to 100,000,000 currency units"),
             Reason::TooManyKeys => return write!(f, "an invoice has at most 1,000 keys (refusal 15)"),

@@ -244,6 +244,37 @@ mod c {
             out: *mut u64,
             out_length: usize,
             pairs: &mut u64,
+            total: &mut u64,
+        ) -> u64;
+
+        pub fn fernsponge_stored_total(
+            words: *const u64,
+            words_length: usize,
+            pairs: usize,
+            total: u64,
+            rows: &mut u64,
+        ) -> u64;
+
+        pub fn fernsponge_cover(
+            words: *mut u64,
+            words_length: usize,
+            pairs: usize,
+            total: u64,
+            start: u64,
+            end: u64,
+            new_pairs: &mut u64,
+            new_total: &mut u64,
+        ) -> u64;
+
+        pub fn fernsponge_uncover(
+            words: *mut u64,
+            words_length: usize,
+            pairs: usize,
+            total: u64,
+            start: u64,
+            end: u64,
+            new_pairs: &mut u64,
+            new_total: &mut u64,
         ) -> u64;
 
         pub fn fernsponge_contains(
@@ -587,15 +618,16 @@ pub fn be_u64(key: &[u8], position: &mut u64) -> u64 {
     unsafe { c::fernsponge_be_u64(key.as_ptr(), key.len(), position) }
 }
 
-/// Writes the pairs of the covered positions to the front of `out`, and how many there are.
+/// Writes the pairs of the covered positions to the front of `out`, how many there are, and how many positions they cover: a stored list.
 pub fn from_query_items(
     pool: &[u8],
     items: &[u32],
     count: u64,
     out: &mut [u64],
     pairs: &mut u64,
+    total: &mut u64,
 ) -> u64 {
-    // SAFETY: as above, of both that are lent for writing
+    // SAFETY: as above, of each of the three that are lent for writing
     unsafe {
         c::fernsponge_from_query_items(
             pool.as_ptr(),
@@ -606,6 +638,63 @@ pub fn from_query_items(
             out.as_mut_ptr(),
             out.len(),
             pairs,
+            total,
+        )
+    }
+}
+
+/// Checks a stored list, the first so many pairs of the words and the total of the rows that they cover, and writes that total.
+pub fn stored_total(words: &[u64], pairs: usize, total: u64, rows: &mut u64) -> u64 {
+    // SAFETY: as above
+    unsafe { c::fernsponge_stored_total(words.as_ptr(), words.len(), pairs, total, rows) }
+}
+
+/// Covers the rows from `start` on, below `end`, in a stored list, and writes how many pairs there are then, and the total.
+pub fn cover(
+    words: &mut [u64],
+    pairs: usize,
+    total: u64,
+    start: u64,
+    end: u64,
+    new_pairs: &mut u64,
+    new_total: &mut u64,
+) -> u64 {
+    // SAFETY: as above, of each of the three that are lent for writing
+    unsafe {
+        c::fernsponge_cover(
+            words.as_mut_ptr(),
+            words.len(),
+            pairs,
+            total,
+            start,
+            end,
+            new_pairs,
+            new_total,
+        )
+    }
+}
+
+/// Uncovers the rows from `start` on, below `end`, in a stored list, and writes how many pairs there are then, and the total.
+pub fn uncover(
+    words: &mut [u64],
+    pairs: usize,
+    total: u64,
+    start: u64,
+    end: u64,
+    new_pairs: &mut u64,
+    new_total: &mut u64,
+) -> u64 {
+    // SAFETY: as above, of each of the three that are lent for writing
+    unsafe {
+        c::fernsponge_uncover(
+            words.as_mut_ptr(),
+            words.len(),
+            pairs,
+            total,
+            start,
+            end,
+            new_pairs,
+            new_total,
         )
     }
 }

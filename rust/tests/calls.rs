@@ -1,7 +1,10 @@
 //! The typed calls: that each hands its input on and takes its answer apart as it should, and that a refusal changes nothing.
 
 use fernsponge::*;
-use std::ops::Range;
+use std::{
+    collections::{BTreeSet, HashSet},
+    ops::Range,
+};
 
 /// A pool of the bytes 0 to 255, so that the key of one byte b stands at offset b.
 fn pool() -> Vec<u8> {
@@ -819,6 +822,352 @@ fn positions() {
         .missing_from_spans(&[Span { start: 0, end: 9 }])
         .unwrap()
         .is_empty());
+}
+
+/// The start and end of each interval, and the total, which a count afresh has to give too.
+fn told(covered: &PositionIntervals) -> (Vec<(u64, u64)>, u64) {
+    let mut rows = 0;
+    assert_eq!(words::len(covered.pair_words(), &mut rows), 0);
+    assert_eq!(covered.len(), rows);
+    let pairs = covered.iter().map(|range| (range.start, range.end));
+    (pairs.collect(), rows)
+}
+
+#[test]
+fn a_list_that_is_changed() {
+    let mut pool = Pool::new();
+    let mut key = |p: u64| pool.add(&p.to_be_bytes()).unwrap();
+    let items = [
+        Item::range(key(20), key(24)),
+        Item::range(key(0), key(10)),
+        Item::key(key(5)),
+    ];
+    let mut covered = PositionIntervals::from_query_items(pool.bytes(), &items, 100).unwrap();
+    assert_eq!(told(&covered), (vec![(0, 10), (20, 24)], 14));
+    let mut after_cover = |range| {
+        covered.cover(range).unwrap();
+        told(&covered)
+    };
+    assert_eq!(after_cover(3..7), (vec![(0, 10), (20, 24)], 14));
+    assert_eq!(after_cover(12..15), (vec![(0, 10), (12, 15), (20, 24)], 17));
+    assert_eq!(after_cover(10..12), (vec![(0, 15), (20, 24)], 19));
+    assert_eq!(after_cover(19..30), (vec![(0, 15), (19, 30)], 26));
+    assert_eq!(after_cover(0..40), (vec![(0, 40)], 40));
+    let mut after_uncover = |range| {
+        covered.uncover(range).unwrap();
+        told(&covered)
+    };
+    assert_eq!(after_uncover(10..20), (vec![(0, 10), (20, 40)], 30));
+    assert_eq!(after_uncover(10..20), (vec![(0, 10), (20, 40)], 30));
+    assert_eq!(after_uncover(9..21), (vec![(0, 9), (21, 40)], 28));
+    assert_eq!(after_uncover(0..1), (vec![(1, 9), (21, 40)], 27));
+    assert_eq!(after_uncover(39..50), (vec![(1, 9), (21, 39)], 26));
+    assert_eq!(after_uncover(0..21), (vec![(21, 39)], 18));
+    assert_eq!(after_uncover(0..u64::MAX), (vec![], 0));
+    assert!(covered.is_empty() && covered == PositionIntervals::default());
+}
+
+#[test]
+fn ranges_that_change_nothing() {
+    for (start, end) in [(5, 5), (0, 0), (7, 3), (u64::MAX, u64::MAX), (u64::MAX, 0)] {
+        let mut covered = PositionIntervals::from_ranges(&[0..10, 20..24]).unwrap();
+        covered.cover(Range { start, end }).unwrap();
+        covered.uncover(Range { start, end }).unwrap();
+        assert_eq!(told(&covered), (vec![(0, 10), (20, 24)], 14));
+    }
+}
+
+/// The canonical list of a set of rows, without row 0.
+fn pairs_of(rows: &BTreeSet<u64>) -> Vec<(u64, u64)> {
+    let starts = rows.iter().filter(|&&row| !rows.contains(&(row - 1)));
+    let ends = rows.iter().filter(|&&row| !rows.contains(&(row + 1)));
+    starts.zip(ends).map(|(&a, &b)| (a, b + 1)).collect()
+}
+
+/// Numbers by chance, below a bound, the same in each run.
+struct Chance(u64);
+
+impl Chance {
+    fn below(&mut self, bound: u64) -> u64 {
+        self.0 = self.0.wrapping_mul(6_364_136_223_846_793_005);
+        self.0 = self.0.wrapping_add(1_442_695_040_888_963_407);
+        (self.0 >> 33) % bound
+    }
+}
+
+/// 10,000 changes, of few rows or of many, in the 60 rows from one on, held against a set of rows.
+fn changed_beside_a_set(first: u64) {
+    let mut chance = Chance(first);
+    let mut covered = PositionIntervals::default();
+    let mut rows = BTreeSet::new();
+    for turn in 0..10_000 {
+        let start = first + chance.below(60);
+        let width = if turn % 50 < 45 { 3 } else { 40 };
+        let end = start.saturating_add(chance.below(width)).min(first + 60);
+        if chance.below(2) == 0 {
+            covered.cover(start..end).unwrap();
+            rows.extend(start..end);
+        } else {
+            covered.uncover(start..end).unwrap();
+            rows.retain(|row| !(start..end).contains(row));
+        }
+        assert_eq!(told(&covered), (pairs_of(&rows), rows.len() as u64));
+        assert!((first..first + 60).all(|row| covered.contains(row) == rows.contains(&row)));
+    }
+}
+
+#[test]
+fn changes_in_turn() {
+    changed_beside_a_set(1);
+    // the rows up to the last one that can be covered
+    changed_beside_a_set(u64::MAX - 60);
+}
+
+#[test]
+fn changes_at_the_greatest_positions() {
+    const MAX: u64 = u64::MAX;
+    let mut covered = PositionIntervals::default();
+    covered.cover(0..MAX).unwrap();
+    assert_eq!(told(&covered), (vec![(0, MAX)], MAX));
+    assert!(covered.contains(MAX - 1) && !covered.contains(MAX));
+    covered.cover(MAX - 1..MAX).unwrap();
+    assert_eq!(told(&covered), (vec![(0, MAX)], MAX));
+    covered.uncover(MAX - 1..MAX).unwrap();
+    assert_eq!(told(&covered), (vec![(0, MAX - 1)], MAX - 1));
+    covered.uncover(1..MAX - 2).unwrap();
+    assert_eq!(told(&covered), (vec![(0, 1), (MAX - 2, MAX - 1)], 2));
+    covered.cover(MAX - 1..MAX).unwrap();
+    assert_eq!(told(&covered), (vec![(0, 1), (MAX - 2, MAX)], 3));
+    covered.uncover(0..MAX).unwrap();
+    assert_eq!(told(&covered), (vec![], 0));
+}
+
+#[test]
+fn a_buffer_that_grows() {
+    // every second row, from both ends in turn, into no room at all
+    let mut covered = PositionIntervals::default();
+    for row in 0..500 {
+        covered.cover(2 * row..2 * row + 1).unwrap();
+        covered.cover(1_998 - 2 * row..1_999 - 2 * row).unwrap();
+    }
+    let single = (0..1_000).map(|row| (2 * row, 2 * row + 1)).collect();
+    assert_eq!(told(&covered), (single, 1_000));
+    // one that is cut again and again, in no room but its own
+    let mut cut = PositionIntervals::from_stored(vec![0, 1_999], 1, 1_999).unwrap();
+    for row in 0..999 {
+        cut.uncover(2 * row + 1..2 * row + 2).unwrap();
+    }
+    assert_eq!(told(&cut), told(&covered));
+    // spare words are used before there are more of them, and an odd one is no room
+    for (length, grown) in [(4, 16), (5, 16), (6, 6), (7, 7), (40, 40)] {
+        let mut words = vec![7; length];
+        words[..4].copy_from_slice(&[0, 10, 20, 24]);
+        let mut stored = PositionIntervals::from_stored(words, 2, 14).unwrap();
+        stored.cover(9..21).unwrap();
+        stored.uncover(4..5).unwrap();
+        stored.uncover(6..7).unwrap();
+        assert_eq!(told(&stored), (vec![(0, 4), (5, 6), (7, 24)], 22));
+        assert_eq!(stored.into_stored().0.len(), grown);
+    }
+}
+
+#[test]
+fn spare_words_tell_nothing() {
+    let stored = |words: &[u64]| PositionIntervals::from_stored(words.to_vec(), 2, 14).unwrap();
+    let mut grown = PositionIntervals::default();
+    grown.cover(20..24).unwrap();
+    grown.cover(0..10).unwrap();
+    let mut cut = PositionIntervals::from_ranges(&[0..12, 14..16, 20..24]).unwrap();
+    cut.uncover(10..16).unwrap();
+    let same = [
+        PositionIntervals::from_ranges(&[0..10, 20..24]).unwrap(),
+        stored(&[0, 10, 20, 24]),
+        stored(&[0, 10, 20, 24, 30]),
+        stored(&[0, 10, 20, 24, 30, 40, 1, 1]),
+        stored(&[0, 10, 20, 24, 30, 40, 1, 1]).clone(),
+        grown,
+        cut,
+    ];
+    for list in &same {
+        assert_eq!(list, &same[0]);
+        assert_eq!(list.pair_words(), [0, 10, 20, 24]);
+        assert_eq!(format!("{list:?}"), "PositionIntervals [0..10, 20..24]");
+        assert_eq!(list.clone().into_stored(), (vec![0, 10, 20, 24], 2, 14));
+        assert_eq!(list.missing_from(&[]).unwrap().total(), 14);
+        assert_eq!(list.extra_in(&[9, 30]).unwrap().examples(), [30]);
+        let spans = [Span { start: 0, end: 24 }];
+        assert!(list.missing_from_spans(&spans).unwrap().is_empty());
+        let plan = list.plan_refetch(&[], 10, 2).unwrap();
+        assert_eq!(plan.windows().collect::<Vec<_>>(), [0..10, 20..24]);
+        assert_eq!(plan.check(list, &[], 10), Ok(true));
+        assert!(!list.contains(30) && !list.is_empty());
+    }
+    assert_eq!(same.into_iter().collect::<HashSet<_>>().len(), 1);
+    let other = PositionIntervals::from_ranges(&[0..10, 20..23]).unwrap();
+    assert_ne!(other, stored(&[0, 10, 20, 24]));
+    let first = PositionIntervals::from_stored(vec![0, 10, 20, 24], 1, 10).unwrap();
+    assert_ne!(first, stored(&[0, 10, 20, 24]));
+    let none = PositionIntervals::from_stored(vec![7, 7, 7], 0, 0).unwrap();
+    assert_eq!(none, PositionIntervals::default());
+    assert_eq!(none.into_stored(), (vec![7, 7, 7], 0, 0));
+}
+
+/// Words of which a stored list is no list, or has not its total, with the refusal.
+fn stored_wrongly() -> Vec<(Vec<u64>, usize, u64, u64)> {
+    let nine = |index: u64| 9 + 65_536 * index;
+    vec![
+        (vec![0, 10, 20, 24], 3, 14, 1),
+        (vec![0, 10, 20, 24, 30], 3, 14, 1),
+        (vec![], 1, 0, 1),
+        (vec![5, 5], usize::MAX, 0, 1),
+        (vec![5, 5, 20, 24], 2, 9, nine(0)),
+        (vec![0, 10, 24, 20], 2, 14, nine(1)),
+        (vec![0, 10, 10, 24], 2, 24, nine(1)),
+        (vec![0, 10, 9, 24], 2, 24, nine(1)),
+        (vec![0, 10, 20, 24, 7, 7, 7], 3, 14, nine(2)),
+        (vec![0, 10, 20, 24], 2, 13, nine(2)),
+        (vec![0, 10, 20, 24], 2, 15, nine(2)),
+        (vec![0, 10, 20, 24, 30], 2, 0, nine(2)),
+        (vec![0, 10, 20, 24], 1, 14, nine(1)),
+        (vec![7, 7], 0, 1, nine(0)),
+        (vec![0, u64::MAX], 1, 0, nine(1)),
+    ]
+}
+
+#[test]
+fn a_refused_stored_list_stays() {
+    for (words, pairs, total, refused) in stored_wrongly() {
+        let mut rows = 7;
+        let returned = words::stored_total(&words, pairs, total, &mut rows);
+        assert_eq!((returned, rows), (refused, 7));
+        // also where the range would change nothing, or the new list would not fit
+        for (start, end) in [(1, 2), (12, 13), (5, 5), (9, 3), (0, u64::MAX)] {
+            for call in [words::cover, words::uncover] {
+                let (mut lent, mut count, mut rows) = (words.clone(), 7, 7);
+                let returned = call(&mut lent, pairs, total, start, end, &mut count, &mut rows);
+                assert_eq!((returned, count, rows), (refused, 7, 7));
+                assert_eq!(lent, words);
+            }
+        }
+        let error = PositionIntervals::from_stored(words, pairs, total).unwrap_err();
+        assert_eq!(Err(error), Refusal::from_number(refused));
+    }
+    let wrong = PositionIntervals::from_stored(vec![0, 10], 1, 9).unwrap_err();
+    assert_eq!(
+        wrong.to_string(),
+        "our interval 1: intervals are not empty, ascend, and stand apart from each other; \
+         where the index is their number, the stored total is not theirs (refusal 9)"
+    );
+}
+
+#[test]
+fn changes_in_lent_words() {
+    let list = [0, 10, 20, 24];
+    // what is lent behind the list, the call and its range, the refusal, and what is left: words, pairs and total
+    for (spare, call, (start, end), refused, left, pairs, total) in [
+        // one pair more than fits, of the words that are lent or of the whole pairs
+        (
+            &[][..],
+            words::cover as Change,
+            (12, 13),
+            6,
+            &list[..],
+            7,
+            7,
+        ),
+        (&[8], words::cover, (12, 13), 6, &[0, 10, 20, 24, 8], 7, 7),
+        (&[], words::uncover, (4, 5), 6, &list, 7, 7),
+        (&[8], words::uncover, (4, 5), 6, &[0, 10, 20, 24, 8], 7, 7),
+        // in a full buffer what merges, widens, narrows or takes away is no matter of room
+        (&[], words::cover, (10, 20), 0, &[0, 24, 0, 0], 1, 24),
+        (&[], words::cover, (24, 30), 0, &[0, 10, 20, 30], 2, 20),
+        (&[], words::cover, (5, 6), 0, &list, 2, 14),
+        (&[], words::uncover, (9, 21), 0, &[0, 9, 21, 24], 2, 12),
+        (&[], words::uncover, (0, 10), 0, &[20, 24, 0, 0], 1, 4),
+        (&[], words::uncover, (12, 13), 0, &list, 2, 14),
+        (&[], words::cover, (13, 12), 0, &list, 2, 14),
+        // freed words become 0, later ones stay
+        (
+            &[8; 3],
+            words::cover,
+            (12, 13),
+            0,
+            &[0, 10, 12, 13, 20, 24, 8],
+            3,
+            15,
+        ),
+        (
+            &[8; 3],
+            words::uncover,
+            (4, 5),
+            0,
+            &[0, 4, 5, 10, 20, 24, 8],
+            3,
+            13,
+        ),
+        (
+            &[8; 3],
+            words::cover,
+            (0, 50),
+            0,
+            &[0, 50, 0, 0, 8, 8, 8],
+            1,
+            50,
+        ),
+        (
+            &[8; 3],
+            words::uncover,
+            (0, 50),
+            0,
+            &[0, 0, 0, 0, 8, 8, 8],
+            0,
+            0,
+        ),
+        (
+            &[8; 3],
+            words::uncover,
+            (4, 4),
+            0,
+            &[0, 10, 20, 24, 8, 8, 8],
+            2,
+            14,
+        ),
+    ] {
+        let (mut lent, mut count, mut rows) = ([&list, spare].concat(), 7, 7);
+        let returned = call(&mut lent, 2, 14, start, end, &mut count, &mut rows);
+        assert_eq!((returned, count, rows), (refused, pairs, total));
+        assert_eq!(lent, left);
+    }
+    let (mut count, mut rows) = (7, 7);
+    let returned = words::cover(&mut [], 0, 0, 3, 4, &mut count, &mut rows);
+    assert_eq!((returned, count, rows), (6, 7, 7));
+    let returned = words::uncover(&mut [], 0, 0, 3, 4, &mut count, &mut rows);
+    assert_eq!((returned, count, rows), (0, 0, 0));
+}
+
+/// A call that changes a stored list.
+type Change = fn(&mut [u64], usize, u64, u64, u64, &mut u64, &mut u64) -> u64;
+
+#[test]
+fn building_tells_the_total() {
+    let pool = [2u64, 5, 9].map(u64::to_be_bytes).concat();
+    let (range, key) = ([1, 0, 0, 8, 8, 8], [0, 0, 16, 8, 0, 0]);
+    let items = [range, key].concat();
+    let (mut out, mut pairs, mut total) = ([7; 5], 7, 7);
+    let returned = words::from_query_items(&pool, &items, 100, &mut out, &mut pairs, &mut total);
+    assert_eq!((returned, pairs, total), (0, 2, 4));
+    assert_eq!(out, [2, 5, 9, 10, 7]);
+    let mut rows = 7;
+    assert_eq!(words::stored_total(&out, 2, total, &mut rows), 0);
+    assert_eq!(rows, 4);
+    // and leaves its place where it refuses
+    let wrapped = [[1, 1, 0, 8, 8, 8], key].concat();
+    for (items, room, refused) in [(&items[..11], 4, 1), (&wrapped, 4, 5), (&items, 3, 6)] {
+        let (mut out, mut pairs, mut total) = ([7; 4], 7, 7);
+        let lent = &mut out[..room];
+        let returned = words::from_query_items(&pool, items, 100, lent, &mut pairs, &mut total);
+        assert_eq!((returned, out, pairs, total), (refused, [7; 4], 7, 7));
+    }
 }
 
 /// The rows 0 to 9 and 20 to 23, of which 3, 4 and 21 are proved: in windows of 4 rows.

@@ -1,7 +1,7 @@
 -- The call on two lists, the pairs of a query and the windows of a plan tell their answers, and leave what was lent to them as they promise.
 -- Assumes nothing.
 use Prim.Native.Nat.{ℕ, _/_}
-use mathlib.Core.Path.{_≡_, refl, sym, ap, subst, _∙_}
+use mathlib.Core.Path.{_≡_, refl, sym, ap, _∙_}
 use mathlib.Core.List.{List}
 use native.Mathlib.Omega.{arith}
 use lib.ListN.{length}
@@ -12,14 +12,14 @@ use Rattle.intersect_many.specs.declared.ManyCounts.{ManyCounts}
 use Rattle.item_lists.specs.Written.{plain, written}
 use Rattle.intersect_many.specs.Lists.{sharedItems, onlyItems, manyAnswer}
 use Rattle.fernsponge.specs.Answers.{refusalNumber, returned, left}
-use Rattle.position_query.specs.declared.Built.{Built}
-use Rattle.position_query.specs.declared.Built.the-variants.{Pairs, Refused}
-use Rattle.position_query.specs.Covered.{buildVerdict, builtOf, asVerdict, FromQueryItems}
+use Rattle.position_given.specs.declared.Stored.{Stored}
+use Rattle.position_given.specs.Answers.{storedOf}
+use Rattle.position_query.specs.Covered.{buildVerdict, FromQueryItems}
 use Rattle.position_plan.specs.declared.Planned.{Planned}
 use Rattle.position_plan.specs.declared.Planned.the-variants as planned
 use Rattle.position_plan.specs.Plans.{planAnswer, countIn, plannedOf, PlanRefetch}
 use Rattle.fernsponge.specs.Intersect.{countNumbers, GivesMany}
-use Rattle.fernsponge.specs.Positions.{GivesPairs}
+use Rattle.fernsponge.specs.Positions.{pairsIn, rowsIn, GivesPairs}
 use Rattle.fernsponge.specs.Plans.{GivesPlan}
 
 module _ {pool ours theirs both mine yours counts both′ mine′ yours′ : List ℕ}
@@ -36,23 +36,24 @@ module _ {pool ours theirs both mine yours counts both′ mine′ yours′ : Lis
 
 -- the pairs of a query: what is built, or why not
 module _ {pool ws : List ℕ} {count : ℕ} {out out′ : List ℕ} where
-  told-verdict : {answer : Answer ℕ} {n : ℕ} → FromQueryItems pool ws count out out′ answer → answer ≡ answered n → buildVerdict pool ws count (length out) ≡ accepted
-  told-verdict F e = sym (F .verdict) ∙ ap asVerdict e
-
-  pub pairs-told : {built : Built} {n pairs : ℕ} → FromQueryItems pool ws count out out′ (builtOf built) → built ≡ Pairs n → GivesPairs pool ws count out pairs 0 out′ n
-  pairs-told {n = n} F e = let v = told-verdict F (ap builtOf e) in record {
-    number = rw v;
-    written = rw v (subst (λ b. FromQueryItems pool ws count out out′ (builtOf b)) e F);
-    kept = rw v;
-  }
-
-  pub pairs-refused : {built : Built} {refusal : Refusal} {r pairs : ℕ} → FromQueryItems pool ws count out out′ (builtOf built) → built ≡ Refused refusal
-      → r ≡ refusalNumber (refusal .number) (refusal .side) (refusal .index) → GivesPairs pool ws count out pairs r out′ pairs
-  pairs-refused {refusal = refusal} F e q =
-      let v : buildVerdict pool ws count (length out) ≡ refusedAs refusal = sym (F .verdict) ∙ ap (λ b. asVerdict (builtOf b)) e in record {
-        number = rw v q;
-        written = rw v (subst (λ b. FromQueryItems pool ws count out out′ (builtOf b)) e F);
+  pub pairs-told : (built : Stored) {pairs total r pairs′ total′ : ℕ} → FromQueryItems pool ws count out out′ (storedOf built)
+      → r ≡ returned (storedOf built) → pairs′ ≡ left pairsIn (storedOf built) pairs → total′ ≡ left rowsIn (storedOf built) total
+      → GivesPairs pool ws count out pairs total r out′ pairs′ total′
+  pairs-told built {pairs = pairs} {total = total} {r = r} {pairs′ = pairs′} {total′ = total′} F n p t = go (storedOf built) F n p t
+    where
+      go : (x : Answer (ℕ × ℕ)) → FromQueryItems pool ws count out out′ x → r ≡ returned x → pairs′ ≡ left pairsIn x pairs → total′ ≡ left rowsIn x total
+          → GivesPairs pool ws count out pairs total r out′ pairs′ total′
+      go (answered a) F n p t = let v : buildVerdict pool ws count (length out) ≡ accepted = sym (F .verdict) in record {
+        number = rw v n;
+        written = rw (v, p, t) F;
         kept = rw v;
+        totalKept = rw v;
+      }
+      go (refused number side index) F n p t = let v : buildVerdict pool ws count (length out) ≡ refused number side index = sym (F .verdict) in record {
+        number = rw v n;
+        written = rw v F;
+        kept = rw v p;
+        totalKept = rw v t;
       }
 
 -- the windows of a plan: how many, or why not

@@ -13,15 +13,15 @@ ghost use Rattle.fernsponge.specs.Answers.{boolNumber, returned, left, i
 ghost use Rattle.fernsponge.specs.Positions.{reportOf, GivesReport, GivesPairs};
 use crate::numbers::bool_number;
 use crate::numbers::refusal_number;
+use crate::stored::give_stored;
 use item_check::Checked;
 use position_describe::Described;
+use position_given::Length;
 use position_given::LogPosition;
 use position_given::RowCount;
-use position_intervals::Length;
 use position_intervals::YesOrNo;
 use position_key::PositionKey;
 use position_mismatch::Compared;
-use position_query::Built;
 use position_report::PositionMismatch;
 use position_spans::Span;
 
@@ -41,7 +41,8 @@ pub extern "C" fn fernsponge_be_u64(key: &[u8], position: &mut u64) -> u64
     0
 }
 
-// Writes the positions below count that items cover, as canonical pairs at the front of out, and tells how many pairs they are (01 m6.4, m6.5).
+// Writes the positions below count that items cover, as canonical pairs at the front of out, and tells how many pairs they are and how many rows
+// they cover (01 m6.4, m6.5, 02 §4.5).
 #[no_mangle]
 pub extern "C" fn fernsponge_from_query_items(
     pool: &[u8],
@@ -49,16 +50,15 @@ pub extern "C" fn fernsponge_from_query_items(
     count: u64,
     out: &mut [u64],
     pairs: &mut u64,
+    total: &mut u64,
 ) -> u64
-    ensures { λ r. ⌜ GivesPairs (now (pool .entry)) (now (items .entry)) count (now (out .entry)) (now (pairs .entry)) r (now (out .exit)) (now (pairs .exit)) ⌝ }
+    ensures { λ r. ⌜ GivesPairs (now (pool .entry)) (now (items .entry)) count (now (out .entry)) (now (pairs .entry)) (now (total .entry)) r (now (out .exit)) (now (pairs .exit)) (now (total .exit)) ⌝ }
 {
-    match position_query::query::from_query_items(pool, items, RowCount(count), out) {
-        Built::Pairs(n) => {
-            *pairs = n as u64;
-            0
-        }
-        Built::Refused(refusal) => refusal_number(refusal),
-    }
+    give_stored(
+        position_query::query::from_query_items(pool, items, RowCount(count), out),
+        pairs,
+        total,
+    )
 }
 
 // Whether a position lies in one of the intervals: 1 for yes and 0 for no (01 m6.8).

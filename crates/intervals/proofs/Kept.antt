@@ -1,8 +1,11 @@
 -- Those of a list that a test keeps. Where the parts of what it drops are dropped too, it may be asked before or after two lists are shared, and
 -- before or after one is removed from the other. The things are of any type. Assumes nothing.
+use Prim.Native.Nat.{suc, _+_}
 use mathlib.Core.Path.{_≡_, refl, sym, ap, ap₂, _∙_}
-use mathlib.Core.Bool.{Bool, true, false, cond}
+use mathlib.Core.Bool.{Bool, true, false, cond, not}
 use mathlib.Core.List.{List, [], _∷_, _++_}
+use native.Mathlib.Omega.{arith}
+use lib.ListN.{length}
 use Rattle.intervals.specs.Lists.{meetsOf, sharedOf, cutsOf, withoutOf, keep}
 use Rattle.intervals.proofs.Lists.{All, all-append, all-cuts, without-append}
 
@@ -19,6 +22,17 @@ module _ {X : Type 0} (f : X → Bool) where
           → cond t (a ∷ keep f (A ++ B)) (keep f (A ++ B)) ≡ cond t (a ∷ keep f A) (keep f A) ++ keep f B
       go true e = ap (_∷_ a) e
       go false e = e
+
+  -- what f keeps, and what it does not, make the whole
+  pub keep-parts : (A : List X) → length A ≡ length (keep f A) + length (keep (λ x. not (f x)) A)
+  unfolding keep
+  keep-parts [] = refl
+  keep-parts (a ∷ A) = go (f a) (keep-parts A)
+    where
+      go : (t : Bool) → length A ≡ length (keep f A) + length (keep (λ x. not (f x)) A)
+          → suc (length A) ≡ length (cond t (a ∷ keep f A) (keep f A)) + length (cond (not t) (a ∷ keep (λ x. not (f x)) A) (keep (λ x. not (f x)) A))
+      go true r = omega arith
+      go false r = omega arith
 
   keep-nothing : (A : List X) → All Dropped A → keep f A ≡ []
   unfolding keep

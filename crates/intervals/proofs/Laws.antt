@@ -2,14 +2,14 @@
 -- stated in the files that the `pub use` lines name, and passed on. No contract cites this file. Assumes nothing.
 use Prim.Native.Nat.{ℕ, suc, _≤_}
 use mathlib.Core.Path.{_≡_, refl, sym, _∙_}
-use mathlib.Core.Bool.{_&&_, _||_, not, and-true, and-or-distrib-right}
+use mathlib.Core.Bool.{Bool, true, false, _&&_, _||_, not, and-true, and-or-distrib-right}
 use mathlib.Core.List.{List, [], _∷_}
 use native.Mathlib.Decide.{decLt}
 use native.Mathlib.Omega.{arith}
 use lib.ListN.{length}
 use Rattle.intervals.specs.Lists.{sharedOf, withoutOf}
-use Rattle.intervals.specs.Intervals.{Interval, Above, Strict, Canonical, inside, holds, shared, without}
-use Rattle.intervals.specs.Cover.{cover, coverAll}
+use Rattle.intervals.specs.Intervals.{Interval, Above, Strict, Canonical, inside, holds, piece, shared, without}
+use Rattle.intervals.specs.Cover.{cover, coverAll, uncover}
 use Rattle.intervals.proofs.Pieces.{meets, cuts}
 use Rattle.intervals.proofs.Ordered.{apart→above, shared-above, without-above}
 use Rattle.intervals.proofs.Algebra.{meets-shared, shared-cons, without-cuts}
@@ -17,11 +17,12 @@ use Rattle.intervals.proofs.Members.{holds-meets, holds-cuts, and-nor, 
 use Rattle.intervals.proofs.Unique.{apart-unique}
 use Rattle.intervals.proofs.Joined.{holds-join-from, join-from-apart}
 use Rattle.intervals.proofs.Covers.{holds-cover-of, cover-of-apart, length-cover-of}
+use Rattle.intervals.proofs.Uncovers.{cuts-apart, length-cuts}
 use Rattle.intervals.proofs.Passes.{interval-above, meeting, cutting}
 pub use Rattle.intervals.proofs.Lists.{meets-append, shared-append, shared-nil}
 pub use Rattle.intervals.proofs.Lists.{cuts-append, without-append, without-nil}
 pub use Rattle.intervals.proofs.Lists.{All, all-append, all-shared, all-without, map-shared, map-without}
-pub use Rattle.intervals.proofs.Kept.{Dropped, keep-append, all-keep, keep-passes, keep-shared, keep-shared-second, keep-without}
+pub use Rattle.intervals.proofs.Kept.{Dropped, keep-append, keep-parts, all-keep, keep-passes, keep-shared, keep-shared-second, keep-without}
 unfoldable pub use Rattle.intervals.proofs.Sweeps.{sweepFrom, sweepOf, stripFrom, stripOf}
 pub use Rattle.intervals.proofs.Sweeps.{AboveOf, BelowOf, Spanned, Meeting, Cutting}
 pub use Rattle.intervals.proofs.Sweeps.{sweep-first, sweep-second, sweep-nil, sweep-is-shared, sweep-skip}
@@ -32,6 +33,7 @@ pub use Rattle.intervals.proofs.Members.{holds-append, holds-piece, Par
 pub use Rattle.intervals.proofs.Passes.{sweep, strip}
 pub use Rattle.intervals.proofs.Joined.{Rising}
 unfoldable pub use Rattle.intervals.proofs.Joined.{joinFrom, join}
+pub use Rattle.intervals.proofs.Uncovers.{uncover-some, uncover-none, length-piece, piece-one, cuts-skip, cuts-above, cuts-open, cuts-gone, cuts-past, cuts-last}
 pub use Rattle.intervals.proofs.Covers.{grow-stop, grow-more, cover-skip, cover-here, cover-some, cover-none}
 
 -- ---- strict and canonical lists
@@ -160,3 +162,92 @@ holds-cover-all (a ∷ A) x = rw (holds-cover (coverAll A) (a .0) (a .1) x (cove
 pub cover-all-unique : (A B : List Interval) → Canonical B → ((x : ℕ) → holds B x ≡ holds A x) → B ≡ coverAll A
 cover-all-unique A B hB same =
     canonical-unique B (coverAll A) hB (cover-all-canonical A) (λ x. same x ∙ sym (holds-cover-all A x))
+
+-- ---- one range uncovered
+
+pub uncover-canonical : (A : List Interval) (s e : ℕ) → Canonical A → Canonical (uncover A s e)
+uncover-canonical A s e hA = elim (decLt s e) [
+  | yes h ↦ rw (uncover-some A s e h) (cuts-apart 0 A (s, e) h hA)
+  | no h ↦ rw (uncover-none A s e (omega arith)) hA
+]
+
+-- what was held and does not lie in the range, and no more
+pub holds-uncover : (A : List Interval) (s e x : ℕ) → holds (uncover A s e) x ≡ holds A x && not (inside s e x)
+unfolding uncover
+holds-uncover A s e x = rw (holds-without A (piece s e) x, holds-piece s e x)
+
+-- no more than one interval more
+pub length-uncover : (A : List Interval) (s e : ℕ) → Canonical A → length (uncover A s e) ≤ suc (length A)
+length-uncover A s e hA = elim (decLt s e) [
+  | yes h ↦ rw (uncover-some A s e h) (length-cuts 0 A s e h hA)
+  | no h ↦ rw (uncover-none A s e (omega arith)) (omega arith)
+]
+
+-- ---- what the two make of a canonical list: there is one canonical list of what is to be held
+
+module _ (A : List Interval) (s e : ℕ) (hA : Canonical A) where
+  -- 02 §4.2: the canonical list that holds exactly what was held or lies in the range
+  pub cover-unique : (B : List Interval) → Canonical B → ((x : ℕ) → holds B x ≡ inside s e x || holds A x) → B ≡ cover A s e
+  cover-unique B hB same = canonical-unique B (cover A s e) hB (cover-canonical A s e hA) (λ x. same x ∙ sym (holds-cover A s e x hA))
+
+  -- 02 §4.3: the canonical list that holds exactly what was held and does not lie in the range
+  pub uncover-unique : (B : List Interval) → Canonical B → ((x : ℕ) → holds B x ≡ holds A x && not (inside s e x)) → B ≡ uncover A s e
+  uncover-unique B hB same = canonical-unique B (uncover A s e) hB (uncover-canonical A s e hA) (λ x. same x ∙ sym (holds-uncover A s e x))
+
+  -- to cover again what is covered changes nothing
+  pub cover-held : ((x : ℕ) → inside s e x ≡ true → holds A x ≡ true) → cover A s e ≡ A
+  cover-held held = sym (cover-unique A hA (λ x. go (inside s e x) (holds A x) (held x)))
+    where
+      go : (t u : Bool) → (t ≡ true → u ≡ true) → u ≡ t || u
+      go true u h = h refl
+      go false u h = refl
+
+  -- to uncover what is not covered changes nothing
+  pub uncover-free : ((x : ℕ) → inside s e x ≡ true → holds A x ≡ false) → uncover A s e ≡ A
+  uncover-free free = sym (uncover-unique A hA (λ x. go (inside s e x) (holds A x) (free x)))
+    where
+      go : (t u : Bool) → (t ≡ true → u ≡ false) → u ≡ u && not t
+      go true true h = h refl
+      go true false h = refl
+      go false u h = sym (and-true u)
+
+  pub cover-again : cover (cover A s e) s e ≡ cover A s e
+  cover-again = sym (canonical-unique (cover A s e) (cover (cover A s e) s e) (cover-canonical A s e hA)
+      (cover-canonical (cover A s e) s e (cover-canonical A s e hA)) same)
+    where
+      twice : (t u : Bool) → t || u ≡ t || (t || u)
+      twice true u = refl
+      twice false u = refl
+
+      same : (x : ℕ) → holds (cover A s e) x ≡ holds (cover (cover A s e) s e) x
+      same x = rw (holds-cover (cover A s e) s e x (cover-canonical A s e hA), holds-cover A s e x hA) (twice (inside s e x) (holds A x))
+
+  pub cover-swap : (t f : ℕ) → cover (cover A s e) t f ≡ cover (cover A t f) s e
+  cover-swap t f = canonical-unique (cover (cover A s e) t f) (cover (cover A t f) s e)
+      (cover-canonical (cover A s e) t f (cover-canonical A s e hA)) (cover-canonical (cover A t f) s e (cover-canonical A t f hA)) same
+    where
+      swap : (p q r : Bool) → p || (q || r) ≡ q || (p || r)
+      swap true true r = refl
+      swap true false r = refl
+      swap false q r = refl
+
+      same : (x : ℕ) → holds (cover (cover A s e) t f) x ≡ holds (cover (cover A t f) s e) x
+      same x = rw (
+        holds-cover (cover A s e) t f x (cover-canonical A s e hA),
+        holds-cover (cover A t f) s e x (cover-canonical A t f hA),
+        holds-cover A s e x hA,
+        holds-cover A t f x hA,
+      ) (swap (inside t f x) (inside s e x) (holds A x))
+
+  -- to uncover what was covered just now gives back a list that held none of it
+  pub uncover-covered : ((x : ℕ) → inside s e x ≡ true → holds A x ≡ false) → uncover (cover A s e) s e ≡ A
+  uncover-covered free = canonical-unique (uncover (cover A s e) s e) A
+      (uncover-canonical (cover A s e) s e (cover-canonical A s e hA)) hA same
+    where
+      go : (t u : Bool) → (t ≡ true → u ≡ false) → (t || u) && not t ≡ u
+      go true true h = sym (h refl)
+      go true false h = refl
+      go false u h = and-true u
+
+      same : (x : ℕ) → holds (uncover (cover A s e) s e) x ≡ holds A x
+      same x = rw (holds-uncover (cover A s e) s e x, holds-cover A s e x hA) (go (inside s e x) (holds A x) (free x))

@@ -10,4 +10,5 @@ pub mod Members
 pub mod Unique
 pub mod Joined
 pub mod Covers
+pub mod Uncovers
 mod Examples

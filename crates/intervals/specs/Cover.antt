@@ -1,9 +1,10 @@
--- Covering one more half-open range in a canonical list, and the ranges of any list one after another. Definitions only. Assumes nothing.
+-- Covering one more half-open range in a canonical list, the ranges of any list one after another, and uncovering one. Definitions only.
+-- Assumes nothing.
 use Prim.Native.Nat.{ℕ, min, max}
 use mathlib.Core.Bool.{cond}
 use mathlib.Core.List.{List, [], _∷_}
 use lib.Dec.{ltb}
-use Rattle.intervals.specs.Intervals.{Interval}
+use Rattle.intervals.specs.Intervals.{Interval, piece, without}
 
 -- 01 m6.4: each end below the next start: the range from s to e takes in each interval that it overlaps or touches, up to the first that
 -- starts above its end
@@ -16,7 +17,7 @@ unfoldable pub coverOf : List Interval → ℕ → ℕ → List Interval
 coverOf [] s e = (s, e) ∷ []
 coverOf (a ∷ A) s e = cond (ltb (a .1) s) (a ∷ coverOf A s e) (growOf (a ∷ A) s e)
 
--- 01 m6.4: nonempty: one more half-open range covered; one whose start is not below its end changes nothing
+-- 01 m6.4, 02 §4.2, §4.9: nonempty: one more half-open range covered; one whose start is not below its end changes nothing
 unfoldable pub cover : List Interval → ℕ → ℕ → List Interval
 cover A s e = cond (ltb s e) (coverOf A s e) A
 
@@ -24,3 +25,7 @@ cover A s e = cond (ltb s e) (coverOf A s e) A
 unfoldable pub coverAll : List Interval → List Interval
 coverAll [] = []
 coverAll (a ∷ A) = cover (coverAll A) (a .0) (a .1)
+
+-- 02 §4.3, §4.9: uncover one: what the list keeps without the range, which is none where its start is not below its end
+unfoldable pub uncover : List Interval → ℕ → ℕ → List Interval
+uncover A s e = without A (piece s e)

@@ -1,4 +1,5 @@
 pub mod Laws
+pub mod Flat
 pub mod Shuffles
 pub mod Heaping
 pub mod Turns

@@ -7,14 +7,18 @@ use native.Mathlib.Omega.{arith}
 use lib.ListN.{length, take, List·getD-eq-default}
 use lib.Seq.{length-take-le, getD-take}
 use Rattle.intervals.specs.Intervals.{Interval, Canonical}
+use Rattle.item_check.specs.Checks.{answered}
 use Rattle.pairs_sort.specs.Pairs.{pairs, flatPairs}
 use Rattle.pairs_sort.proofs.Laws.{pairs-kept, pairs-flat, length-flat}
 use Rattle.position_given.specs.Given.{intervalsOf}
+use Rattle.position_given.specs.Positions.{rowsOf}
+use Rattle.position_given.specs.Answers.{rowsAnswer}
 use Rattle.position_given.specs.Inner.{Sound}
+use Rattle.position_given.proofs.Accepted.{canonical-accepts}
 use Rattle.position_given.proofs.Widths.{nonempty-at}
 
 -- the last of canonical pairs is nonempty, so that its end stands in the words
-canonical-fits : (ws : List ℕ) (m : ℕ) → Canonical (pairs ws m) → 2 * m ≤ length ws
+pub canonical-fits : (ws : List ℕ) (m : ℕ) → Canonical (pairs ws m) → 2 * m ≤ length ws
 canonical-fits ws zero C = omega arith
 canonical-fits ws (suc k) C = elim (decLt (2 * k + 1) (length ws)) [
   | yes h ↦ omega arith
@@ -23,15 +27,22 @@ canonical-fits ws (suc k) C = elim (decLt (2 * k + 1) (length ws)) [
       absurd (omega (arith, last, List·getD-eq-default ws 0 {n = 2 * k + 1} (omega arith)))
 ]
 
+-- the pairs at the front of words are the intervals of these alone
+pub front-pairs : (ws : List ℕ) (m : ℕ) → 2 * m ≤ length ws → intervalsOf (take (2 * m) ws) ≡ pairs ws m
+front-pairs ws m h =
+    let half : 2 * m / 2 ≡ m = omega arith in
+    rw (length-take-le (2 * m) ws h, half)
+    (pairs-kept ws (take (2 * m) ws) m 0
+    (λ j l k. getD-take (2 * m) ws (2 * j) 0 (omega arith))
+    (λ j l k. getD-take (2 * m) ws (2 * j + 1) 0 (omega arith)))
+
 module _ (ws : List ℕ) (m : ℕ) (C : Canonical (pairs ws m)) where
-  -- canonical pairs at the front of words are the intervals of these alone
   pub front-intervals : intervalsOf (take (2 * m) ws) ≡ pairs ws m
-  front-intervals =
-      let half : 2 * m / 2 ≡ m = omega arith in
-      rw (length-take-le (2 * m) ws (canonical-fits ws m C), half)
-      (pairs-kept ws (take (2 * m) ws) m 0
-      (λ j l k. getD-take (2 * m) ws (2 * j) 0 (omega arith))
-      (λ j l k. getD-take (2 * m) ws (2 * j + 1) 0 (omega arith)))
+  front-intervals = front-pairs ws m (canonical-fits ws m C)
+
+  -- canonical ones are counted
+  pub front-rows : rowsAnswer (intervalsOf (take (2 * m) ws)) ≡ answered (rowsOf (pairs ws m))
+  front-rows = rw (front-intervals, canonical-accepts (pairs ws m) C)
 
   -- and are what accepted intervals are
   pub front-sound : Sound (take (2 * m) ws)

@@ -8,7 +8,7 @@ use native.Mathlib.Omega.{arith}
 use lib.Dec.{eqb}
 use lib.ListN.{length, getD, length-append}
 use borrow.Author.Tests.{eq-eqb, ne-eqb}
-use Rattle.intervals.specs.Intervals.{Interval, Apart, Canonical, holds}
+use Rattle.intervals.specs.Intervals.{Interval, Apart, holds}
 use Rattle.intervals.proofs.Members.{inside-past}
 use Rattle.pairs_sort.specs.Pairs.{start, finish, pairsFrom}
 use Rattle.pairs_sort.proofs.Laws.{pairs-more, pairs-end}
@@ -59,7 +59,7 @@ positions-bound lo most (b ∷ A) h a e =
     next [] p q r = r tt tt
     next (d ∷ A) p q r = r (omega (arith, p .0), p .1, p .2) q
 
--- ---- a turn of the sum
+-- ---- the widths of the pairs that are left
 
 module _ (ws : List ℕ) (count i : ℕ) where
   abbrev widthLeft : ℕ → ℕ
@@ -70,10 +70,6 @@ module _ (ws : List ℕ) (count i : ℕ) where
 
   pub width-end : count ≤ i → widthLeft i ≡ 0
   width-end h = rw (pairs-end ws i count h) (unfold positionsOf in refl)
-
-pub all-fit : (ws : List ℕ) → Words ws → Canonical (intervalsOf ws) → length (positionsOf (intervalsOf ws)) < 18446744073709551616
-all-fit ws w c =
-    omega (arith, positions-bound 0 18446744073709551615 (intervalsOf ws) (omega arith) c (ends-of ws w (length ws / 2) 0))
 
 -- the pair at an index is nonempty
 pub nonempty-at : (ws : List ℕ) (k i j lo : ℕ) → Apart lo (pairsFrom ws i k) → i ≤ j → j < i + k → start ws j < finish ws j

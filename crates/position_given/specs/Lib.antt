@@ -1,3 +1,4 @@
 pub mod Given
 pub mod Positions
+pub mod Answers
 pub mod Inner

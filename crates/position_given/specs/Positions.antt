@@ -1,6 +1,7 @@
--- The positions of intervals, one by one. Definitions only. Assumes nothing.
+-- The positions of intervals, one by one, and how many they are. Definitions only. Assumes nothing.
 use Prim.Native.Nat.{ℕ, zero, suc, _-_}
 use mathlib.Core.List.{List, [], _∷_, _++_}
+use lib.ListN.{length}
 use Rattle.intervals.specs.Intervals.{Interval}
 
 -- 01 m6.4: k numbers from s on
@@ -12,3 +13,7 @@ countUp s (suc k) = s ∷ countUp (suc s) k
 unfoldable pub positionsOf : List Interval → List ℕ
 positionsOf [] = []
 positionsOf (a ∷ A) = countUp (a .0) (a .1 - a .0) ++ positionsOf A
+
+-- 01 m6.9, 02 §4.6: counting afresh: how many rows the intervals cover
+abbrev pub rowsOf : List Interval → ℕ
+rowsOf A = length (positionsOf A)

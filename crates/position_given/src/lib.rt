@@ -1,15 +1,16 @@
 // Module 6 of document 01: intervals and proved positions, which are lent as words: their checks, in the order that document 01 fixes.
-// Definitions: specs/Given.antt (the checks), specs/Positions.antt (the positions of intervals), specs/Inner.antt (what inner and private
-// functions promise, here and in the crates above). Laws: proofs/Laws.antt, proofs/Widths.antt.
+// Definitions: specs/Given.antt (the checks), specs/Positions.antt (the positions of intervals), specs/Answers.antt (answers that several calls
+// have), specs/Inner.antt (what inner and private functions promise, here and in the crates above). Laws: proofs/Laws.antt, proofs/Widths.antt,
+// proofs/Rows.antt.
 //
 // Every function is inner: it is public only because other crates need it, and its definition covers every input.
 ghost use mathlib.Core.Path.{_≡_};
-ghost use Prim.Native.Nat.{_/_, min};
-ghost use lib.ListN.{length};
-ghost use Rattle.item_check.specs.Checks.{verdictOf};
-ghost use Rattle.pairs_sort.specs.Pairs.{pairs};
-ghost use Rattle.position_given.specs.Given.{evenVerdict, intervalsVerdict, canonicalVerdict, ascendingVerdict, provedVerdict};
+ghost use Prim.Native.Nat.{min};
+ghost use Rattle.item_check.specs.Checks.{verdictOf, refused};
+ghost use Rattle.position_given.specs.Given.{intervalsOf, evenVerdict, intervalsVerdict, ascendingVerdict, provedVerdict};
+ghost use Rattle.position_given.specs.Answers.{lengthOf, rowsAnswer};
 use item_check::Checked;
+use item_check::Refusal;
 use item_check::refuse;
 
 // The last u64. As a position it is covered by nothing, since no count is above it: nothing adds 1 to it.
@@ -21,13 +22,28 @@ pub struct LogPosition(pub u64);
 // How many rows (01 m6.7, form.2).
 pub struct RowCount(pub u64);
 
+// How many rows are covered; what `len` and `stored_total` answer.
+pub enum Length {
+    Rows(RowCount),
+    Refused(Refusal),
+}
+
+// What a stored list has: how many pairs, and how many rows these cover. It is what `from_query_items`, `cover` and `uncover` answer (02 §4.1).
+pub enum Stored {
+    Pairs(usize, RowCount),
+    Refused(Refusal),
+}
+
 // inner: whether words are intervals: in pairs, and canonical.
 pub fn check_intervals(intervals: &[u64]) -> Checked
     ensures { λ r. ⌜ verdictOf r ≡ intervalsVerdict (now (intervals .entry)) ⌝ }
 {
     match check_even(intervals, 0) {
         Checked::Refused(r) => Checked::Refused(r),
-        Checked::Accepted => check_canonical(intervals),
+        Checked::Accepted => match count_rows(intervals) {
+            Length::Refused(r) => Checked::Refused(r),
+            Length::Rows(_) => Checked::Accepted,
+        },
     }
 }
 
@@ -41,29 +57,42 @@ pub fn check_even(words: &[u64], side: u32) -> Checked
     Checked::Accepted
 }
 
-// Each pair is nonempty and starts above the end of the one before it; else 9. The first has none before it.
-fn check_canonical(intervals: &[u64]) -> Checked
-    ensures { λ r. ⌜ verdictOf r ≡ canonicalVerdict (pairs (now (intervals .entry)) (length (now (intervals .entry)) / 2)) ⌝ }
+// inner: how many rows words in pairs cover, in one pass that checks them: each pair is nonempty and starts above the end of the one before it;
+// else 9. The first has none before it. No sum wraps: it is never above the last end.
+pub fn count_rows(intervals: &[u64]) -> Length
+    ensures { λ r. ⌜ lengthOf r ≡ rowsAnswer (intervalsOf (now (intervals .entry))) ⌝ }
 {
     let count = intervals.len() / 2;
     if count == 0 {
-        return Checked::Accepted;
+        return Length::Rows(RowCount(0));
     }
     if intervals[1] <= intervals[0] {
-        return refuse(9, 0, 0);
+        return not_canonical(0);
     }
     let mut end = intervals[1];
+    let mut rows = end - intervals[0];
     let mut i: usize = 1;
     while i < count {
         let s = intervals[2 * i];
         let e = intervals[2 * i + 1];
         if !((end < s) & (s < e)) {
-            return refuse(9, 0, i);
+            return not_canonical(i);
         }
+        rows += e - s;
         end = e;
         i += 1;
     }
-    Checked::Accepted
+    Length::Rows(RowCount(rows))
+}
+
+fn not_canonical(index: usize) -> Length
+    ensures { λ r. ⌜ lengthOf r ≡ refused 9 0 index ⌝ }
+{
+    Length::Refused(Refusal {
+        number: 9,
+        side: 0,
+        index,
+    })
 }
 
 // inner: whether words are intervals, and the positions proved of them ascend strictly.

@@ -2,16 +2,13 @@
 use Prim.Native.Nat.{ℕ}
 use mathlib.Core.List.{List}
 use mathlib.Core.Bool.{Bool}
-use lib.ListN.{length}
 use lib.Dec.{eqb}
 use Rattle.intervals.specs.Intervals.{holds}
 use Rattle.item_check.specs.Checks.{Answer, answered, andThen, refusedAs}
 use Rattle.position_given.specs.Given.{intervalsOf, intervalsVerdict}
-use Rattle.position_given.specs.Positions.{positionsOf}
+use Rattle.position_given.specs.Positions.{rowsOf}
 use Rattle.position_intervals.specs.declared.YesOrNo.{YesOrNo}
 use Rattle.position_intervals.specs.declared.YesOrNo.the-variants as yesOrNo
-use Rattle.position_intervals.specs.declared.Length.{Length}
-use Rattle.position_intervals.specs.declared.Length.the-variants as size
 
 -- ---- answers (01 m6.8)
 
@@ -20,17 +17,12 @@ containsAnswer ws p = andThen (intervalsVerdict ws) (answered (holds (intervalsO
 
 -- 01 m6.9: `len` is the number covered
 abbrev pub lenAnswer : List ℕ → Answer ℕ
-lenAnswer ws = andThen (intervalsVerdict ws) (answered (length (positionsOf (intervalsOf ws))))
+lenAnswer ws = andThen (intervalsVerdict ws) (answered (rowsOf (intervalsOf ws)))
 
 abbrev pub isEmptyAnswer : List ℕ → Answer Bool
-isEmptyAnswer ws = andThen (intervalsVerdict ws) (answered (eqb (length (positionsOf (intervalsOf ws))) 0))
+isEmptyAnswer ws = andThen (intervalsVerdict ws) (answered (eqb (rowsOf (intervalsOf ws)) 0))
 
--- 01 form.11: the paper's numbers and values for each case of the answers that the code gives
-
+-- 01 form.11: the paper's numbers and values for each case of the answer that the code gives
 abbrev pub yesOrNoOf : YesOrNo → Answer Bool
 yesOrNoOf (yesOrNo.Is b) = answered b
 yesOrNoOf (yesOrNo.Refused r) = refusedAs r
-
-abbrev pub lengthOf : Length → Answer ℕ
-lengthOf (size.Rows n) = answered (n .0)
-lengthOf (size.Refused r) = refusedAs r

@@ -1,17 +1,17 @@
 // What intervals are asked: whether they hold a position, how many they hold, whether they hold none.
 ghost use mathlib.Core.Path.{_≡_};
-ghost use lib.ListN.{length};
 ghost use Rattle.intervals.specs.Intervals.{holds};
 ghost use Rattle.position_given.specs.Given.{intervalsOf};
 ghost use Rattle.position_given.specs.Inner.{Sound};
-ghost use Rattle.position_given.specs.Positions.{positionsOf};
-ghost use Rattle.position_intervals.specs.Asked.{yesOrNoOf, lengthOf, containsAnswer, lenAnswer, isEmptyAnswer};
-use crate::Length;
+ghost use Rattle.position_given.specs.Answers.{lengthOf};
+ghost use Rattle.position_intervals.specs.Asked.{yesOrNoOf, containsAnswer, lenAnswer, isEmptyAnswer};
 use crate::YesOrNo;
 use item_check::Checked;
+use position_given::Length;
 use position_given::LogPosition;
-use position_given::RowCount;
+use position_given::check_even;
 use position_given::check_intervals;
+use position_given::count_rows;
 
 // Whether a position lies in one of the intervals (01 m6.3, m6.8, form.2, form.3).
 pub fn contains(intervals: &[u64], position: LogPosition) -> YesOrNo
@@ -47,25 +47,10 @@ fn in_one_of(intervals: &[u64], position: LogPosition) -> bool
 pub fn len(intervals: &[u64]) -> Length
     ensures { λ r. ⌜ lengthOf r ≡ lenAnswer (now (intervals .entry)) ⌝ }
 {
-    match check_intervals(intervals) {
+    match check_even(intervals, 0) {
         Checked::Refused(r) => Length::Refused(r),
-        Checked::Accepted => Length::Rows(RowCount(total_width(intervals))),
+        Checked::Accepted => count_rows(intervals),
     }
-}
-
-// The sum of the widths, which never passes the last end.
-fn total_width(intervals: &[u64]) -> u64
-    requires { ⌜ Sound (now intervals) ⌝ }
-    ensures { λ r. ⌜ r ≡ length (positionsOf (intervalsOf (now (intervals .entry)))) ⌝ }
-{
-    let count = intervals.len() / 2;
-    let mut total: u64 = 0;
-    let mut i: usize = 0;
-    while i < count {
-        total += intervals[2 * i + 1] - intervals[2 * i];
-        i += 1;
-    }
-    total
 }
 
 // Whether no position is covered (01 m6.9).

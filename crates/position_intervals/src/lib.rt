@@ -1,20 +1,13 @@
-// Module 6 of document 01: log positions as half-open intervals, which are lent as words: what they are asked. `position_given` checks them,
-// `position_query` makes them of query items, `position_mismatch` compares them with the positions that a proof carries, and `position_joined`
-// has the laws of these calls one after the other.
+// Module 6 of document 01: log positions as half-open intervals, which are lent as words: what they are asked. `position_given` checks
+// and counts them, `position_query` makes them of query items, `position_stored` changes them, `position_mismatch` compares them with the positions
+// that a proof carries, and `position_joined` has the laws of these calls one after the other.
 // Definitions: specs/Asked.antt. Laws: proofs/Laws.antt.
 pub mod ask;
 
 use item_check::Refusal;
-use position_given::RowCount;
 
 // What `contains` and `is_empty` answer.
 pub enum YesOrNo {
     Is(bool),
-    Refused(Refusal),
-}
-
-// What `len` answers.
-pub enum Length {
-    Rows(RowCount),
     Refused(Refusal),
 }

@@ -26,9 +26,9 @@ covered-below pool its count p = elim (decLt p count) [
   | no h ↦ rw (inside-past 0 (0 + count) p (omega arith), le-ltb p count (omega arith))
 ]
 
-pub covered-positions : (pool ws : List ℕ) (count : ℕ) (old new : List ℕ) (m : ℕ) → Covers pool ws count old new m
+pub covered-positions : (pool ws : List ℕ) (count : ℕ) (old new : List ℕ) (m t : ℕ) → Covers pool ws count old new m t
     → positionsOf (pairs new m) ≡ keep (covered pool (itemsOf ws) count) (countUp 0 count)
-covered-positions pool ws count old new m C =
+covered-positions pool ws count old new m t C =
     let f = covered pool (itemsOf ws) count in
     ascends-unique 0 0 (positionsOf (pairs new m)) (keep f (countUp 0 count))
     (ascends-positions 0 (pairs new m) (canonical→strict (pairs new m) (C .canonical)))

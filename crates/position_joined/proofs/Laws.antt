@@ -1,24 +1,26 @@
--- From query items to answers: where `from_query_items` answers m, the first m pairs of the lent words are accepted by `contains`, `len`,
--- `is_empty`, `missing_from`, `extra_in`, `missing_from_spans`, `plan_refetch` and `check_plan`, and these answer what the items cover. Stated of
--- each call's own promise: r is what `from_query_items` answers, old and new are the lent words before and after. No contract cites this file.
--- Assumes nothing.
-use Prim.Native.Nat.{ℕ, _*_, _%_, _<_}
-use mathlib.Core.Path.{_≡_, ap, _∙_}
-use mathlib.Core.Bool.{Bool, false, not, _&&_}
+-- From query items to answers: where `from_query_items` answers m pairs of t rows, these pairs at the front of the lent words are accepted by
+-- `contains`, `len`, `is_empty`, `missing_from`, `extra_in`, `missing_from_spans`, `plan_refetch` and `check_plan`, and these answer what the items
+-- cover; they are a stored list, of which `cover` and `uncover` leave what the items cover, with the range or without it. Stated of each call's own
+-- promise: r is what `from_query_items` answers, old and new are the lent words before and after. And what the calls that ask of intervals answer
+-- of any stored list. No contract cites this file. Assumes nothing.
+use Prim.Native.Nat.{ℕ, _*_, _/_, _%_, _<_}
+use mathlib.Core.Path.{_≡_, refl, sym, ap, _∙_}
+use mathlib.Core.Bool.{Bool, false, not, _&&_, _||_}
 use mathlib.Core.List.{List}
 use native.Mathlib.Omega.{arith}
 use lib.Dec.{eqb}
 use lib.ListN.{length, take}
 use borrow.Author.Tests.{eq-eqb, ne-eqb}
 use Rattle.intervals.specs.Lists.{keep}
-use Rattle.intervals.specs.Intervals.{Interval, holds}
-use Rattle.item_check.specs.Checks.{Answer, answered, accepted, itemsOf}
+use Rattle.intervals.specs.Intervals.{Interval, inside, holds}
+use Rattle.item_check.specs.Checks.{Answer, answered, refused, Verdict, accepted, andThen, itemsOf}
 use Rattle.pairs_sort.specs.Pairs.{pairs}
 use Rattle.position_given.specs.Given.{intervalsOf, intervalsVerdict}
 use Rattle.position_given.specs.Inner.{Sound, Ascends}
-use Rattle.position_given.specs.Positions.{countUp, positionsOf}
+use Rattle.position_given.specs.Positions.{countUp, positionsOf, rowsOf}
 use Rattle.position_given.proofs.Accepted.{sound-accepts, ascending-accepts, proved-accepts}
-use Rattle.position_given.proofs.Fronts.{front-intervals, front-sound}
+use Rattle.position_given.proofs.Accepted as given
+use Rattle.position_given.proofs.Fronts.{canonical-fits, front-intervals, front-sound}
 use Rattle.position_intervals.specs.Asked.{containsAnswer, lenAnswer, isEmptyAnswer}
 use Rattle.position_query.specs.Covered.{covered, Covers, FromQueryItems}
 use Rattle.position_report.specs.Reports.{reportOf}
@@ -26,12 +28,15 @@ use Rattle.position_mismatch.specs.Reports.{isIn, missing, extra, firstCrossing
 use Rattle.position_mismatch.proofs.Laws.{spans-as-positions}
 use Rattle.position_mismatch.proofs.Positions.{in-positions, ascends-spans, keep-same, keep-keep}
 use Rattle.position_plan.specs.Plans.{accepts, plan, fitted, planAnswer, checkAnswer}
+use Rattle.position_stored.specs.Stored.{totalAnswer, coverAnswer, coverWords, uncoverAnswer, uncoverWords}
+use Rattle.position_stored.specs.Inner.{StoredList}
+use Rattle.position_stored.proofs.Laws.{total-read, covered-holds, uncovered-holds, Step, Right, steps, steps-right}
 use Rattle.position_joined.proofs.Covered.{covered-positions}
 
-module _ (pool ws : List ℕ) (count : ℕ) (old new : List ℕ) (r : Answer ℕ)
-    (F : FromQueryItems pool ws count old new r) (m : ℕ) (is : r ≡ answered m) where
-  C : Covers pool ws count old new m
-  C = F .written m is
+module _ (pool ws : List ℕ) (count : ℕ) (old new : List ℕ) (r : Answer (ℕ × ℕ))
+    (F : FromQueryItems pool ws count old new r) (m t : ℕ) (is : r ≡ answered (m, t)) where
+  C : Covers pool ws count old new m t
+  C = F .written m t is
 
   written : intervalsOf (take (2 * m) new) ≡ pairs new m
   written = front-intervals new m (C .canonical)
@@ -40,11 +45,33 @@ module _ (pool ws : List ℕ) (count : ℕ) (old new : List ℕ) (r : Answer ℕ
   sound = front-sound new m (C .canonical)
 
   positions : positionsOf (pairs new m) ≡ keep (covered pool (itemsOf ws) count) (countUp 0 count)
-  positions = covered-positions pool ws count old new m C
+  positions = covered-positions pool ws count old new m t C
 
   -- 01 m6.4: what is written is accepted
   pub built-accepted : intervalsVerdict (take (2 * m) new) ≡ accepted
   built-accepted = sound-accepts (take (2 * m) new) sound
+
+  -- 02 §4.5: it is a stored list, with the total that is answered
+  pub built-stored : StoredList new m t
+  built-stored = record { within = omega (arith, canonical-fits new m (C .canonical)); canonical = C .canonical; right = sym (C .total) }
+
+  -- 02 §4.5: that total is how many positions below the count are covered
+  pub built-total : t ≡ length (keep (covered pool (itemsOf ws) count) (countUp 0 count))
+  built-total = C .total ∙ ap length positions
+
+  -- 02 §4.2: with a range covered they hold what the items cover or lies in the range
+  pub built-covered : (s e n k : ℕ) → coverAnswer new m t s e ≡ answered (n, k) → (p : ℕ)
+      → holds (pairs (coverWords new m t s e) n) p ≡ inside s e p || covered pool (itemsOf ws) count p
+  built-covered s e n k h p = covered-holds new m t s e n k h p ∙ ap (λ (b : Bool). inside s e p || b) (C .covers p)
+
+  -- 02 §4.3: with a range uncovered, what the items cover and does not lie in the range
+  pub built-uncovered : (s e n k : ℕ) → uncoverAnswer new m t s e ≡ answered (n, k) → (p : ℕ)
+      → holds (pairs (uncoverWords new m t s e) n) p ≡ covered pool (itemsOf ws) count p && not (inside s e p)
+  built-uncovered s e n k h p = uncovered-holds new m t s e n k h p ∙ ap (λ (b : Bool). b && not (inside s e p)) (C .covers p)
+
+  -- 02 §4.4, §4.6: through building and any sequence of changes, answered or refused, the total that is kept is what counting afresh gives
+  pub built-right : (xs : List Step) → Right (steps (record { words = new; count = m; total = t }) xs)
+  built-right xs = steps-right (record { words = new; count = m; total = t }) xs built-stored
 
   -- 01 m6.3, m6.8: `contains` answers whether a position is covered
   pub built-contains : (p : ℕ) → containsAnswer (take (2 * m) new) p ≡ answered (covered pool (itemsOf ws) count p)
@@ -104,3 +131,31 @@ module _ (pool ws : List ℕ) (count : ℕ) (old new : List ℕ) (r : Answer ℕ
     pub built-checked : (vs : List ℕ) → length vs % 2 ≡ 0 → checkAnswer (take (2 * m) new) P W vs
         ≡ answered (accepts W (keep (λ p. covered pool (itemsOf ws) count p && not (isIn P p)) (countUp 0 count)) (intervalsOf vs))
     built-checked vs h = rw (built-accepted, eq-eqb (length vs % 2) 0 h, ascending-accepts P a, wide, written, lost)
+
+-- what the calls that ask of intervals answer of the pairs of a stored list, and so of what building, covering and uncovering leave
+module _ (ws : List ℕ) (count total : ℕ) (S : StoredList ws count total) where
+  -- 02 §4.4: they are accepted
+  pub stored-accepted : intervalsVerdict (take (2 * count) ws) ≡ accepted
+  stored-accepted = sound-accepts (take (2 * count) ws) (front-sound ws count (S .canonical))
+
+  -- 02 §4.6: the stored total is what `len` counts
+  pub stored-len : lenAnswer (take (2 * count) ws) ≡ answered total
+  stored-len = rw (stored-accepted, front-intervals ws count (S .canonical), S .right)
+
+  -- 02 §4.6: and what `stored_total` answers
+  pub stored-read : totalAnswer ws count total ≡ lenAnswer (take (2 * count) ws)
+  stored-read = total-read ws count total S ∙ sym stored-len
+
+  pub stored-is-empty : isEmptyAnswer (take (2 * count) ws) ≡ answered (eqb total 0)
+  stored-is-empty = rw (stored-accepted, front-intervals ws count (S .canonical), S .right)
+
+  pub stored-contains : (p : ℕ) → containsAnswer (take (2 * count) ws) p ≡ answered (holds (pairs ws count) p)
+  stored-contains p = rw (stored-accepted, front-intervals ws count (S .canonical))
+
+-- 02 §4.6: words that `len` counts are a stored list with that total
+pub counted-stored : (ws : List ℕ) (t : ℕ) → lenAnswer ws ≡ answered t → StoredList ws (length ws / 2) t
+counted-stored ws t h = go (intervalsVerdict ws) refl h
+  where
+    go : (v : Verdict) → intervalsVerdict ws ≡ v → andThen v (answered (rowsOf (intervalsOf ws))) ≡ answered t → StoredList ws (length ws / 2) t
+    go (answered u) e q = record { within = omega arith; canonical = given.sound ws e .canonical; right = cc }
+    go (refused n s i) e q = let z : _≡_ {A = ℕ} 0 1 = cc in absurd (omega arith)

@@ -8,7 +8,7 @@ use lib.ListN.{length}
 use Rattle.intervals.specs.Lists.{keep}
 use Rattle.intervals.specs.Intervals.{Interval, Canonical}
 use Rattle.intervals.specs.Intervals as interval
-use Rattle.intervals.proofs.Laws.{canonical→strict}
+use Rattle.intervals.proofs.Laws.{canonical→strict, keep-parts}
 use Rattle.item_check.specs.declared.Checked.{Checked}
 use Rattle.item_check.specs.declared.Checked.the-variants as checked
 use Rattle.item_check.specs.Checks.{answered, accepted, verdictOf, andThen}
@@ -18,7 +18,7 @@ use Rattle.position_given.specs.Inner.{Ascends}
 use Rattle.position_given.proofs.Accepted.{ascending-accepts}
 use Rattle.position_mismatch.specs.declared.Compared.{Compared}
 use Rattle.position_mismatch.specs.Reports.{isIn, missing, extra, present, firstCrossing, missingAnswer, spansAnswer, comparedOf}
-use Rattle.position_mismatch.proofs.Positions.{in-keep, in-positions, ascends-keep, ascends-positions, ascends-spans, ascends-unique, keep-parts}
+use Rattle.position_mismatch.proofs.Positions.{in-keep, in-positions, ascends-keep, ascends-positions, ascends-spans, ascends-unique}
 pub use Rattle.position_mismatch.proofs.Positions.{ascends-unique, in-positions}
 pub use Rattle.position_mismatch.proofs.Steps.{Gives, spans-answer}
 

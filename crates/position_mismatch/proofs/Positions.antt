@@ -2,7 +2,7 @@
 use Prim.Native.Nat.{ℕ, zero, suc, _+_, _-_, _≤_, _<_, min, max}
 use mathlib.Core.Path.{_≡_, refl, sym, ap, _∙_}
 use mathlib.Core.Bool.{Bool, true, false, cond, not, _&&_, _||_, or-assoc, and-false, false≢true, true≢false}
-use mathlib.Core.List.{List, [], _∷_, _++_, append-assoc}
+use mathlib.Core.List.{List, [], _∷_, _++_}
 use native.Mathlib.Decide.{decLt, ℕ-discrete}
 use native.Mathlib.Omega.{arith}
 use lib.Dec.{leb, eqb}
@@ -251,22 +251,6 @@ keep-never (p ∷ L) = keep-never L
 
 pub keep-none : (f : ℕ → Bool) (L : List ℕ) → ((p : ℕ) → isIn L p ≡ true → f p ≡ false) → keep f L ≡ []
 keep-none f L h = keep-same f (λ p. false) L h ∙ keep-never L
-
--- what f keeps, and what it does not, make the whole
-pub keep-parts : (f : ℕ → Bool) (L : List ℕ) → length L ≡ length (keep f L) + length (keep (λ p. not (f p)) L)
-unfolding keep
-keep-parts f [] = refl
-keep-parts f (p ∷ L) = go (f p) (keep-parts f L)
-  where
-    go : (t : Bool) → length L ≡ length (keep f L) + length (keep (λ q. not (f q)) L)
-        → suc (length L) ≡ length (cond t (p ∷ keep f L) (keep f L)) + length (cond (not t) (p ∷ keep (λ q. not (f q)) L) (keep (λ q. not (f q)) L))
-    go true r = omega arith
-    go false r = omega arith
-
-pub positions-append : (A B : List Interval) → positionsOf (A ++ B) ≡ positionsOf A ++ positionsOf B
-unfolding positionsOf
-positions-append [] B = refl
-positions-append (a ∷ A) B = rw (positions-append A B, append-assoc)
 
 -- a run, cut to what stands from x on, below y
 pub keep-run : (s e x y : ℕ) → keep (inside x y) (countUp s (e - s)) ≡ countUp (max s x) (min e y - max s x)

@@ -14,7 +14,7 @@ use borrow.Author.Tests.{eq-eqb, ne-eqb}
 use Rattle.intervals.specs.Lists.{keep}
 use Rattle.intervals.specs.Intervals.{inside, holds}
 use Rattle.intervals.proofs.Members.{inside-below, inside-yes, inside-past}
-use Rattle.intervals.proofs.Laws.{keep-append}
+use Rattle.intervals.proofs.Laws.{keep-append, keep-parts}
 use Rattle.pairs_sort.specs.Pairs.{start, finish}
 use Rattle.position_given.specs.Given.{intervalsOf}
 use Rattle.position_given.specs.Positions.{countUp}
@@ -28,7 +28,7 @@ use Rattle.position_report.proofs.Runs.{run-report}
 use Rattle.position_mismatch.specs.declared.Walk.{Walk}
 use Rattle.position_mismatch.specs.Reports.{isIn, missing, extra}
 use Rattle.position_mismatch.specs.Inner.{walkAt, reportUntil, pairsLeft, overSpan, FirstPast}
-use Rattle.position_mismatch.proofs.Positions.{in-append, in-below, ascends-weaken, keep-parts}
+use Rattle.position_mismatch.proofs.Positions.{in-append, in-below, ascends-weaken}
 use Rattle.position_mismatch.proofs.Walks.{Reached, reached-start, reached-over, reached-end}
 
 -- ---- the missing ones

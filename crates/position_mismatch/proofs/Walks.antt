@@ -18,6 +18,7 @@ use Rattle.pairs_sort.proofs.Laws.{pairs-more, pairs-end, pairs-snoc, pairs-app
 use Rattle.position_given.specs.Given.{intervalsOf}
 use Rattle.position_given.specs.Positions.{countUp, positionsOf}
 use Rattle.position_given.specs.Inner.{Sound, Ascends, lastWord}
+use Rattle.position_given.proofs.Rows.{positions-append}
 use Rattle.position_given.proofs.Apart.{apart-below, apart-back}
 use Rattle.position_given.proofs.Widths.{Words, length-count, ends-of, ends-held}
 use Rattle.position_report.specs.declared.PositionMismatch.{PositionMismatch}
@@ -27,7 +28,7 @@ use Rattle.position_report.proofs.Runs.{run-report}
 use Rattle.position_mismatch.specs.declared.Walk.{Walk}
 use Rattle.position_mismatch.specs.Reports.{isIn, missing}
 use Rattle.position_mismatch.specs.Inner.{walkAt, withGap, reportUntil, pairsLeft, overSpan}
-use Rattle.position_mismatch.proofs.Positions.{in-append, in-keep, in-positions, ascends-keep, ascends-append, ascends-raise, ascends-positions, ascends-unique, length-ascends, keep-same, keep-none, keep-run, positions-append}
+use Rattle.position_mismatch.proofs.Positions.{in-append, in-keep, in-positions, ascends-keep, ascends-append, ascends-raise, ascends-positions, ascends-unique, length-ascends, keep-same, keep-none, keep-run}
 
 -- ---- a turn
 

@@ -15,8 +15,8 @@ use crate::runs::next_missing;
 use item_check::Checked;
 use item_check::Refusal;
 use position_given::LAST_WORD;
+use position_given::Length;
 use position_given::RowCount;
-use position_intervals::Length;
 use position_intervals::ask::len;
 
 // The end of a window, and the run of missing rows that is left after it.

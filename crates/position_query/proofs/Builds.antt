@@ -3,14 +3,13 @@ use Prim.Native.Nat.{ℕ, zero, suc, _+_, _-_, _*_, _/_, _≤_, _<_, min}
 use mathlib.Core.Path.{_≡_, refl, sym, ap, _∙_}
 use mathlib.Core.Bool.{cond}
 use mathlib.Core.List.{List, [], _++_, append-assoc, append-nil}
-use native.Mathlib.Decide.{decLt}
 use native.Mathlib.Numerals.{add-one}
 use native.Mathlib.Omega.{arith}
 use lib.ListN.{length, drop, length-append}
 use borrow.Author.Tests.{lt-ltb, le-ltb}
 use Rattle.intervals.specs.Intervals.{Interval, piece}
 use Rattle.intervals.specs.Intervals as interval
-use Rattle.intervals.proofs.Laws.{piece-some, piece-none}
+use Rattle.intervals.proofs.Laws.{piece-some, piece-none, piece-one}
 use Rattle.query_item.specs.Items.{itemAt, itemsFrom}
 use Rattle.item_check.specs.Checks.{Answer, answered, Verdict, accepted, refused, andThen, poolVerdict, shapeVerdict, itemsOf}
 use Rattle.item_check.proofs.Laws.{accepts, fault-refused, items-end, items-more}
@@ -18,6 +17,7 @@ use Rattle.pairs_sort.specs.Pairs.{pairsFrom, pairs, put, pushes, Merged}
 use Rattle.pairs_sort.proofs.Laws.{pairs-length, push-length, push-pairs, push-kept}
 use Rattle.position_query.specs.Covered.{positionFault, firstFault, queryVerdict, FromQueryItems}
 use Rattle.position_given.specs.Inner.{lastWord}
+use Rattle.position_given.specs.Positions.{rowsOf}
 use Rattle.position_query.specs.Ranges.{clipped, ranges}
 use Rattle.position_query.specs.Inner.{Wrote, Building}
 use Rattle.key_order.proofs.Words.{Bytes}
@@ -62,19 +62,13 @@ module _ (pool : List ℕ) (count : ℕ) (ws : List ℕ) (n i : ℕ) where
     pub ranges-none : i < n → e ≤ s → length (rangesLeft i) ≡ length (rangesLeft (i + 1))
     ranges-none h l = rw (ranges-more h, piece-none s e l)
 
-length-piece : (s e : ℕ) → length (piece s e) ≤ 1
-length-piece s e = elim (decLt s e) [
-  | yes h ↦ rw (piece-some s e h) (omega arith)
-  | no h ↦ rw (piece-none s e (omega arith)) (omega arith)
-]
-
 -- no more than there are items
 pub ranges-few : (pool : List ℕ) (count : ℕ) (ws : List ℕ) (n i : ℕ) → length (ranges pool count (itemsFrom ws i n)) ≤ n
 unfolding ranges itemsFrom
 ranges-few pool count ws zero i = omega arith
 ranges-few pool count ws (suc n) i =
     let a = clipped pool count (itemAt ws i) in
-    omega (arith, length-append (piece (a .0) (a .1)) (ranges pool count (itemsFrom ws (suc i) n)), length-piece (a .0) (a .1), ranges-few pool count ws n (suc i))
+    omega (arith, length-append (piece (a .0) (a .1)) (ranges pool count (itemsFrom ws (suc i) n)), piece-one (a .0) (a .1), ranges-few pool count ws n (suc i))
 
 -- ---- the ranges written
 
@@ -134,22 +128,25 @@ module _ (pool ws : List ℕ) (count : ℕ) (old : List ℕ) where
   pub build-short : length old / 2 < length whole → Building pool ws count old old (refused 6 0 0)
   build-short h = record {
     verdict = rw (lt-ltb (length old / 2) (length whole) h);
-    written = λ m e. let z : _≡_ {A = ℕ} 0 1 = cc in absurd (omega arith);
+    written = λ m t e. let z : _≡_ {A = ℕ} 0 1 = cc in absurd (omega arith);
     kept = λ n s i e. refl;
   }
 
-  pub build-whole : (k : ℕ) (mid new : List ℕ) (m : ℕ) → length whole ≤ length old / 2 → k ≡ length whole → length mid ≡ length old → Wrote whole old mid
-      → Merged (min k (length mid / 2)) mid new m → Building pool ws count old new (answered m)
-  build-whole k mid new m h is-k size W M =
+  pub build-whole : (k : ℕ) (mid new : List ℕ) (m : ℕ) (r : Answer (ℕ × ℕ)) → length whole ≤ length old / 2 → k ≡ length whole → length mid ≡ length old → Wrote whole old mid
+      → Merged (min k (length mid / 2)) mid new m → r ≡ answered (m, rowsOf (pairs new m)) → Building pool ws count old new r
+  build-whole k mid new m r h is-k size W M is-r =
       let n : min k (length mid / 2) ≡ length whole = omega arith in
       let R : Merged (length whole) mid new m = rw n at M in record {
-        verdict = rw (le-ltb (length old / 2) (length whole) (omega arith));
-        written = λ m′ e. let same : m ≡ m′ = cc in rw (← same) (
-          R .canonical,
-          λ p. R .same p ∙ ap (λ (A : List Interval). interval.holds A p) (W .front),
-          R .freed,
-          R .later ∙ W .later,
-        );
+        verdict = rw (is-r, le-ltb (length old / 2) (length whole) (omega arith));
+        written = λ m′ t e. let both : _≡_ {A = ℕ × ℕ} (m, rowsOf (pairs new m)) (m′, t) = cc in
+            let same : m ≡ m′ = ap (λ (u : ℕ × ℕ). u .0) both in
+            let rows : rowsOf (pairs new m) ≡ t = ap (λ (u : ℕ × ℕ). u .1) both in rw (← same) (
+              sym rows,
+              R .canonical,
+              λ p. R .same p ∙ ap (λ (A : List Interval). interval.holds A p) (W .front),
+              R .freed,
+              R .later ∙ W .later,
+            );
         kept = λ number s i e. let z : _≡_ {A = ℕ} 0 1 = cc in absurd (omega arith);
       }
 
@@ -159,22 +156,23 @@ pub from-refused : (pool ws : List ℕ) (count : ℕ) (old : List ℕ) (n s i : 
     → FromQueryItems pool ws count old old (refused n s i)
 from-refused pool ws count old n s i e = record {
   verdict = rw e;
-  written = λ m h. let z : _≡_ {A = ℕ} 0 1 = cc in absurd (omega arith);
+  written = λ m t h. let z : _≡_ {A = ℕ} 0 1 = cc in absurd (omega arith);
   kept = λ a b d h. refl;
 }
 
-pub from-built : (pool ws : List ℕ) (count : ℕ) (old new : List ℕ) (r : Answer ℕ) → Bytes pool → count ≤ lastWord → queryVerdict pool ws ≡ accepted
+pub from-built : (pool ws : List ℕ) (count : ℕ) (old new : List ℕ) (r : Answer (ℕ × ℕ)) → Bytes pool → count ≤ lastWord → queryVerdict pool ws ≡ accepted
     → Building pool ws count old new r → FromQueryItems pool ws count old new r
 from-built pool ws count old new r B few e M =
     let rest = accepts (poolVerdict pool) (andThen (shapeVerdict ws 0) (firstFault pool 0 (itemsOf ws))) .0 e in
     let good = accepts (shapeVerdict ws 0) (firstFault pool 0 (itemsOf ws)) .0 (rest .1) in
     let needed = ranges-needed pool B count few 0 (itemsOf ws) (good .1) in record {
       verdict = rw (e, ← needed) (M .verdict);
-      written = λ m h. let w = M .written m h in record {
-        canonical = w .0;
-        covers = λ p. w .1 p ∙ ranges-covered pool B count few 0 (itemsOf ws) (good .1) p;
-        freed = rw (← needed) (w .2);
-        later = rw (← needed) (w .3);
+      written = λ m t h. let w = M .written m t h in record {
+        total = w .0;
+        canonical = w .1;
+        covers = λ p. w .2 p ∙ ranges-covered pool B count few 0 (itemsOf ws) (good .1) p;
+        freed = rw (← needed) (w .3);
+        later = rw (← needed) (w .4);
       };
       kept = M .kept;
     }

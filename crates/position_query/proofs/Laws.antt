@@ -1,5 +1,5 @@
--- Each law that a caller cites, in the order of specs/: that answers are told apart, which positions an item holds, that there is one
--- answer, and what it is. No contract cites this file. Assumes nothing.
+-- Each law that a caller cites, in the order of specs/: which positions an item holds, that there is one answer, and what it is. No contract
+-- cites this file. Assumes nothing.
 use Prim.Native.Nat.{ℕ, zero, suc, _+_, _-_, _*_, _/_, _≤_, _<_}
 use mathlib.Core.Path.{_≡_, refl, sym, ap, _∙_}
 use mathlib.Core.Bool.{false}
@@ -15,24 +15,15 @@ use Rattle.intervals.proofs.Laws.{canonical-unique, cover-all-unique}
 use Rattle.key_order.proofs.Words.{Bytes}
 use Rattle.query_item.specs.declared.ItemWords.{ItemWords}
 use Rattle.item_check.specs.Checks.{Answer, answered, refused, accepted, andThen, poolVerdict, shapeVerdict, itemsOf}
-use Rattle.item_check.proofs.Laws.{refused-apart, accepts}
+use Rattle.item_check.proofs.Laws.{accepts}
 use Rattle.pairs_sort.specs.Pairs.{start, finish, pairsFrom, pairs}
 use Rattle.pairs_sort.proofs.Laws.{pairs-length}
 use Rattle.position_given.specs.Inner.{lastWord}
-use Rattle.position_query.specs.declared.Built.{Built}
-use Rattle.position_query.specs.declared.Built.the-variants as built
-use Rattle.position_query.specs.Covered.{covered, firstFault, rangesNeeded, roomVerdict, queryVerdict, buildVerdict, builtOf, asVerdict, Covers, FromQueryItems}
+use Rattle.position_given.specs.Positions.{rowsOf}
+use Rattle.position_query.specs.Covered.{covered, firstFault, rangesNeeded, roomVerdict, queryVerdict, buildVerdict, asVerdict, Covers, FromQueryItems}
 use Rattle.position_query.specs.Ranges.{ranges, coveredPairs}
 use Rattle.position_query.proofs.Ranges.{ranges-covered, ranges-needed}
 pub use Rattle.position_query.proofs.Ranges.{item-held}
-
--- ---- answers are told apart
-
-pub built-apart : (r s : Built) → builtOf r ≡ builtOf s → r ≡ s
-built-apart (built.Pairs m) (built.Pairs n) e = let h : m ≡ n = cc in ap built.Pairs h
-built-apart (built.Pairs m) (built.Refused s) e = cc
-built-apart (built.Refused r) (built.Pairs n) e = cc
-built-apart (built.Refused r) (built.Refused s) e = ap built.Refused (refused-apart r s e)
 
 -- ---- one answer of `from_query_items`
 
@@ -42,9 +33,9 @@ unfolding covered
 last-never pool its count h = rw (le-ltb lastWord count h)
 
 -- there is one list of canonical pairs that holds exactly the covered positions
-pub covers-unique : (pool ws : List ℕ) (count : ℕ) (old new new′ : List ℕ) (m m′ : ℕ) → Covers pool ws count old new m → Covers pool ws count old new′ m′
-    → pairs new m ≡ pairs new′ m′
-covers-unique pool ws count old new new′ m m′ C D =
+pub covers-unique : (pool ws : List ℕ) (count : ℕ) (old new new′ : List ℕ) (m m′ t t′ : ℕ) → Covers pool ws count old new m t
+    → Covers pool ws count old new′ m′ t′ → pairs new m ≡ pairs new′ m′
+covers-unique pool ws count old new new′ m m′ t t′ C D =
     canonical-unique (pairs new m) (pairs new′ m′) (C .canonical) (D .canonical) (λ p. C .covers p ∙ sym (D .covers p))
 
 pair-at : (ws : List ℕ) (k i j : ℕ) → j < k → getD (pairsFrom ws i k) j (0, 0) ≡ (start ws (i + j), finish ws (i + j))
@@ -77,11 +68,11 @@ never : {X : Type 0} {a : Unit {0}} {n s i : ℕ} → answered a ≡ refused n s
 never e = let z : _≡_ {A = ℕ} 0 1 = cc in absurd (omega arith)
 
 module _ (pool ws : List ℕ) (count : ℕ) (old new new′ : List ℕ) (l : length new ≡ length old) (l′ : length new′ ≡ length old) where
-  pub words-unique : (m m′ : ℕ) → Covers pool ws count old new m → Covers pool ws count old new′ m′ → (m ≡ m′) × (new ≡ new′)
-  words-unique m m′ C D =
-      let same : pairs new m ≡ pairs new′ m′ = covers-unique pool ws count old new new′ m m′ C D in
+  pub words-unique : (m m′ t t′ : ℕ) → Covers pool ws count old new m t → Covers pool ws count old new′ m′ t′ → (m ≡ m′) × (t ≡ t′) × (new ≡ new′)
+  words-unique m m′ t t′ C D =
+      let same : pairs new m ≡ pairs new′ m′ = covers-unique pool ws count old new new′ m m′ t t′ C D in
       let e : m ≡ m′ = sym (pairs-length new m 0) ∙ ap length same ∙ pairs-length new′ m′ 0 in
-      (e, ext-getD 0 new new′ (l ∙ sym l′) (λ i h. word i (rw (← e) at same) (rw (← e) at (D .freed))))
+      (e, C .total ∙ ap rowsOf same ∙ sym (D .total), ext-getD 0 new new′ (l ∙ sym l′) (λ i h. word i (rw (← e) at same) (rw (← e) at (D .freed))))
     where
       word : (i : ℕ) → pairs new m ≡ pairs new′ m → ((j : ℕ) → 2 * m ≤ j → j < 2 * rangesNeeded pool count (itemsOf ws) → getD new′ j 0 ≡ 0)
           → getD new i 0 ≡ getD new′ i 0
@@ -94,9 +85,11 @@ module _ (pool ws : List ℕ) (count : ℕ) (old new new′ : List ℕ) (l : len
       ]
 
   -- any two answers that the promise of `from_query_items` allows are equal, and so are the words
-  pub from-query-items-unique : (r r′ : Answer ℕ) → FromQueryItems pool ws count old new r → FromQueryItems pool ws count old new′ r′ → (r ≡ r′) × (new ≡ new′)
-  from-query-items-unique (answered m) (answered m′) F G =
-      let both = words-unique m m′ (F .written m refl) (G .written m′ refl) in (ap answered (both .0), both .1)
+  pub from-query-items-unique : (r r′ : Answer (ℕ × ℕ)) → FromQueryItems pool ws count old new r
+      → FromQueryItems pool ws count old new′ r′ → (r ≡ r′) × (new ≡ new′)
+  from-query-items-unique (answered a) (answered b) F G =
+      let all = words-unique (a .0) (b .0) (a .1) (b .1) (F .written (a .0) (a .1) refl) (G .written (b .0) (b .1) refl) in
+      ((λ i. answered (all .0 i, all .1 i)), all .2)
   from-query-items-unique (answered m) (refused n s i) F G = never (F .verdict ∙ sym (G .verdict))
   from-query-items-unique (refused n s i) (answered m) F G = never (G .verdict ∙ sym (F .verdict))
   from-query-items-unique (refused n s i) (refused n′ s′ i′) F G =
@@ -120,23 +113,25 @@ module _ (pool ws : List ℕ) (count : ℕ) (B : Bytes pool) (few : count ≤ la
   covers-pairs good A C same =
       cover-all-unique (ranges pool count (itemsOf ws)) A C (λ p. same p ∙ sym (ranges-covered pool B count few 0 (itemsOf ws) (no-fault pool ws good) p))
 
-  module _ (old new : List ℕ) (r : Answer ℕ) (F : FromQueryItems pool ws count old new r) where
-    -- the pairs that are written are the computed ones, and the answer is how many
-    pub written-pairs : (m : ℕ) → r ≡ answered m
+  module _ (old new : List ℕ) (r : Answer (ℕ × ℕ)) (F : FromQueryItems pool ws count old new r) where
+    -- the pairs that are written are the computed ones, and the answer is how many, and how many rows they cover
+    pub written-pairs : (m t : ℕ) → r ≡ answered (m, t)
         → (m ≡ length (coveredPairs pool count (itemsOf ws))) × (pairs new m ≡ coveredPairs pool count (itemsOf ws))
-    written-pairs m e =
-        let C = F .written m e in
+        × (t ≡ rowsOf (coveredPairs pool count (itemsOf ws)))
+    written-pairs m t e =
+        let C = F .written m t e in
         let good = accepts (queryVerdict pool ws) (roomVerdict (rangesNeeded pool count (itemsOf ws)) (length old)) .0 (sym (F .verdict) ∙ rw e) .0 in
         let same = covers-pairs good (pairs new m) (C .canonical) (C .covers) in
-        (sym (pairs-length new m 0) ∙ ap length same, same)
+        (sym (pairs-length new m 0) ∙ ap length same, same, C .total ∙ ap rowsOf same)
 
     -- with a pair of room for each nonempty range, accepted items are answered
     pub pairs-answered : queryVerdict pool ws ≡ accepted → length (ranges pool count (itemsOf ws)) ≤ length old / 2
-        → r ≡ answered (length (coveredPairs pool count (itemsOf ws)))
+        → r ≡ answered (length (coveredPairs pool count (itemsOf ws)), rowsOf (coveredPairs pool count (itemsOf ws)))
     pairs-answered good room = go r refl
       where
-        go : (t : Answer ℕ) → r ≡ t → t ≡ answered (length (coveredPairs pool count (itemsOf ws)))
-        go (answered m) e = ap answered (written-pairs m e .0)
+        go : (u : Answer (ℕ × ℕ)) → r ≡ u
+            → u ≡ answered (length (coveredPairs pool count (itemsOf ws)), rowsOf (coveredPairs pool count (itemsOf ws)))
+        go (answered a) e = let all = written-pairs (a .0) (a .1) e in λ i. answered (all .0 i, all .2 i)
         go (refused n s i) e =
             let needed = ranges-needed pool B count few 0 (itemsOf ws) (no-fault pool ws good) in
             let fits : buildVerdict pool ws count (length old) ≡ accepted =

@@ -10,10 +10,9 @@ use Rattle.intervals.specs.Intervals as interval
 use Rattle.query_item.specs.declared.KeyAt.{KeyAt}
 use Rattle.query_item.specs.declared.ItemWords.{ItemWords}
 use Rattle.query_item.specs.Items.{bytesOf, queryItem, holds}
-use Rattle.item_check.specs.Checks.{Answer, answered, refused, Verdict, accepted, andThen, refusedAs, hasStart, hasEnd, malformed, outside, faultAt, poolVerdict, shapeVerdict, itemsOf}
+use Rattle.item_check.specs.Checks.{Answer, answered, refused, Verdict, accepted, andThen, hasStart, hasEnd, malformed, outside, faultAt, poolVerdict, shapeVerdict, itemsOf}
 use Rattle.pairs_sort.specs.Pairs.{pairs}
-use Rattle.position_query.specs.declared.Built.{Built}
-use Rattle.position_query.specs.declared.Built.the-variants.{Pairs, Refused}
+use Rattle.position_given.specs.Positions.{rowsOf}
 use Rattle.position_key.specs.Keys.{keySize, positionKey}
 
 -- ---- coverage
@@ -83,25 +82,22 @@ buildVerdict pool ws count words = andThen (queryVerdict pool ws) (roomVerdict (
 -- ---- the promise
 
 -- 01 m6.3, m6.4, m6.6: the result is pairs, canonical, of the covered positions. `covers` is for every number: u64::MAX is below no count.
--- Reading A20: words of pairs merged away become 0, later ones stay
-pub record Covers (pool ws : List ℕ) (count : ℕ) (old new : List ℕ) (m : ℕ) : Type 0 where
+-- Reading A20: words of pairs merged away become 0, later ones stay. 02 §4.5: the total beside them is what counting afresh gives
+pub record Covers (pool ws : List ℕ) (count : ℕ) (old new : List ℕ) (m rows : ℕ) : Type 0 where
   pub canonical : interval.Canonical (pairs new m)
   pub covers : (p : ℕ) → interval.holds (pairs new m) p ≡ covered pool (itemsOf ws) count p
   pub freed : (i : ℕ) → 2 * m ≤ i → i < 2 * rangesNeeded pool count (itemsOf ws) → getD new i 0 ≡ 0
   pub later : drop (2 * rangesNeeded pool count (itemsOf ws)) new ≡ drop (2 * rangesNeeded pool count (itemsOf ws)) old
-
--- 01 form.11: the paper's numbers for each case of the code's answer
-abbrev pub builtOf : Built → Answer ℕ
-builtOf (Pairs m) = answered m
-builtOf (Refused r) = refusedAs r
+  pub total : rows ≡ rowsOf (pairs new m)
 
 -- 01 form.11: whether a call answers, or why not
 abbrev pub asVerdict : {A : Type 0} → Answer A → Verdict
 asVerdict (answered a) = accepted
 asVerdict (refused number side index) = refused number side index
 
--- 01 demand.1, m6.5: refused exactly as the checks say; pairs written where it is not, and reading A1: nothing written where it is
-pub record FromQueryItems (pool ws : List ℕ) (count : ℕ) (old new : List ℕ) (r : Answer ℕ) : Type 0 where
+-- 01 demand.1, m6.5: refused exactly as the checks say; pairs written where it is not, and their number and total answered; reading A1: nothing
+-- written where it is
+pub record FromQueryItems (pool ws : List ℕ) (count : ℕ) (old new : List ℕ) (r : Answer (ℕ × ℕ)) : Type 0 where
   pub verdict : asVerdict r ≡ buildVerdict pool ws count (length old)
-  pub written : (m : ℕ) → r ≡ answered m → Covers pool ws count old new m
+  pub written : (m rows : ℕ) → r ≡ answered (m, rows) → Covers pool ws count old new m rows
   pub kept : (number side index : ℕ) → r ≡ refused number side index → new ≡ old

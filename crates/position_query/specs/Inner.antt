@@ -7,6 +7,7 @@ use lib.ListN.{length, getD, drop}
 use Rattle.intervals.specs.Intervals.{Interval, Canonical, holds}
 use Rattle.item_check.specs.Checks.{Answer, answered, refused, itemsOf}
 use Rattle.pairs_sort.specs.Pairs.{pairs}
+use Rattle.position_given.specs.Positions.{rowsOf}
 use Rattle.position_query.specs.declared.query.ItemRange.{ItemRange}
 use Rattle.position_query.specs.declared.query.ItemRange.the-variants.{Range, BadKey}
 use Rattle.position_query.specs.declared.query.PositionRange.{PositionRange}
@@ -27,9 +28,9 @@ pub record Wrote (A : List Interval) (old new : List ℕ) : Type 0 where
   pub later : drop (2 * length A) new ≡ drop (2 * length A) old
 
 -- what `build` promises of items in terms of these ranges
-pub record Building (pool ws : List ℕ) (count : ℕ) (old new : List ℕ) (r : Answer ℕ) : Type 0 where
+pub record Building (pool ws : List ℕ) (count : ℕ) (old new : List ℕ) (r : Answer (ℕ × ℕ)) : Type 0 where
   pub verdict : asVerdict r ≡ roomVerdict (length (ranges pool count (itemsOf ws))) (length old)
-  pub written : (m : ℕ) → r ≡ answered m → Canonical (pairs new m) × ((p : ℕ) → holds (pairs new m) p ≡ holds (ranges pool count (itemsOf ws)) p)
+  pub written : (m rows : ℕ) → r ≡ answered (m, rows) → (rows ≡ rowsOf (pairs new m)) × Canonical (pairs new m) × ((p : ℕ) → holds (pairs new m) p ≡ holds (ranges pool count (itemsOf ws)) p)
       × ((i : ℕ) → 2 * m ≤ i → i < 2 * length (ranges pool count (itemsOf ws)) → getD new i 0 ≡ 0)
       × (drop (2 * length (ranges pool count (itemsOf ws))) new ≡ drop (2 * length (ranges pool count (itemsOf ws))) old)
   pub kept : (number side index : ℕ) → r ≡ refused number side index → new ≡ old

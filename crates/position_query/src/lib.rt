@@ -1,14 +1,6 @@
-// Module 6 of document 01: from query items to log positions: the positions that items cover, written as half-open intervals. Nothing here
-// grows with the count of rows.
+// Module 6 of document 01: from query items to log positions: the positions that items cover, written as half-open intervals, and their
+// number. Nothing here grows with the count of rows.
 // Definitions: specs/Covered.antt (coverage, the checks of position items, the promise), specs/Ranges.antt (the pairs, computed),
 // specs/Inner.antt (what private functions promise). Laws: proofs/Laws.antt; among them that there is one answer, and that it is the
 // computed one.
 pub mod query;
-
-use item_check::Refusal;
-
-// What `from_query_items` answers: how many pairs it has written.
-pub enum Built {
-    Pairs(usize),
-    Refused(Refusal),
-}

@@ -3,13 +3,16 @@ ghost use mathlib.Core.Path.{_≡_};
 ghost use Prim.Native.Nat.{_*_, _≤_};
 ghost use lib.ListN.{length};
 ghost use lib.Dec.{leb};
+ghost use Rattle.intervals.specs.Intervals.{Canonical};
 ghost use Rattle.query_item.specs.Items.{bytesOf};
-ghost use Rattle.item_check.specs.Checks.{verdictOf, itemsOf};
+ghost use Rattle.item_check.specs.Checks.{verdictOf, answered, itemsOf};
+ghost use Rattle.pairs_sort.specs.Pairs.{pairs};
+ghost use Rattle.position_given.specs.Positions.{rowsOf};
+ghost use Rattle.position_given.specs.Answers.{storedOf};
 ghost use Rattle.position_key.specs.Keys.{positionOf, positionAnswer};
-ghost use Rattle.position_query.specs.Covered.{positionFault, firstFault, queryVerdict, builtOf, FromQueryItems};
+ghost use Rattle.position_query.specs.Covered.{positionFault, firstFault, queryVerdict, FromQueryItems};
 ghost use Rattle.position_query.specs.Ranges.{afterOf, firstOf, pastOf, rangeAnswer, clipped, ranges};
 ghost use Rattle.position_query.specs.Inner.{itemRangeOf, rangePair, Wrote, Building};
-use crate::Built;
 use item_check::Checked;
 use item_check::Refusal;
 use item_check::check_pool;
@@ -22,8 +25,11 @@ use item_words::query_item;
 use pairs_sort::make_canonical;
 use pairs_sort::push_pair;
 use position_given::LAST_WORD;
+use position_given::Length;
 use position_given::LogPosition;
 use position_given::RowCount;
+use position_given::Stored;
+use position_given::count_rows;
 use position_given::smaller;
 use position_key::PositionKey;
 use position_key::be_u64;
@@ -44,13 +50,13 @@ struct PositionRange {
     end: u64,
 }
 
-// Writes the positions that items cover as canonical pairs, and says how many. That there is room for the items' ranges is known before one
-// is written (01 m6.3, m6.4, m6.5, m6.6).
-pub fn from_query_items(pool: &[u8], items: &[u32], count: RowCount, out: &mut [u64]) -> Built
-    ensures { λ r. ⌜ FromQueryItems (now (pool .entry)) (now (items .entry)) (count .0) (now (out .entry)) (now (out .exit)) (builtOf r) ⌝ }
+// Writes the positions that items cover as canonical pairs, and says how many pairs and how many rows. That there is room for the items' ranges is
+// known before one is written (01 m6.3, m6.4, m6.5, m6.6, 02 §4.5).
+pub fn from_query_items(pool: &[u8], items: &[u32], count: RowCount, out: &mut [u64]) -> Stored
+    ensures { λ r. ⌜ FromQueryItems (now (pool .entry)) (now (items .entry)) (count .0) (now (out .entry)) (now (out .exit)) (storedOf r) ⌝ }
 {
     match check_query(pool, items) {
-        Checked::Refused(r) => Built::Refused(r),
+        Checked::Refused(r) => Stored::Refused(r),
         Checked::Accepted => build(pool, items, count.0, out),
     }
 }
@@ -172,18 +178,31 @@ fn clip(pool: &[u8], item: ItemWords, count: u64) -> PositionRange
 // ---- building
 
 // Writes the ranges of accepted items where there is room, and makes them canonical.
-fn build(pool: &[u8], items: &[u32], count: u64, out: &mut [u64]) -> Built
-    ensures { λ r. ⌜ Building (now (pool .entry)) (now (items .entry)) count (now (out .entry)) (now (out .exit)) (builtOf r) ⌝ }
+fn build(pool: &[u8], items: &[u32], count: u64, out: &mut [u64]) -> Stored
+    ensures { λ r. ⌜ Building (now (pool .entry)) (now (items .entry)) count (now (out .entry)) (now (out .exit)) (storedOf r) ⌝ }
 {
     if !has_room(pool, items, count, out.len() / 2) {
-        return Built::Refused(Refusal {
+        return Stored::Refused(Refusal {
             number: 6,
             side: 0,
             index: 0,
         });
     }
     let k = write_ranges(pool, items, count, out);
-    Built::Pairs(make_canonical(out, k))
+    let m = make_canonical(out, k);
+    with_total(out, m)
+}
+
+// The first m pairs with their total: the one place where a total is made by counting. Since they are canonical it is never refused (02 §4.5).
+fn with_total(out: &[u64], m: usize) -> Stored
+    requires { ⌜ Canonical (pairs (now out) m) ⌝ }
+    ensures { λ r. ⌜ storedOf r ≡ answered (m, rowsOf (pairs (now (out .entry)) m)) ⌝ }
+{
+    let end = 2 * m;
+    match count_rows(&out[..end]) {
+        Length::Refused(r) => Stored::Refused(r),
+        Length::Rows(rows) => Stored::Pairs(m, rows),
+    }
 }
 
 // Whether the ranges are no more than the pairs of room. They are counted only where the items are more.

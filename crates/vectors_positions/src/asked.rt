@@ -1,7 +1,7 @@
 // Questions of intervals. Inputs: the intervals, and for `contains` a position.
 use crate::words::after;
+use position_given::Length;
 use position_given::LogPosition;
-use position_intervals::Length;
 use position_intervals::YesOrNo;
 use position_intervals::ask::contains;
 use position_intervals::ask::is_empty;

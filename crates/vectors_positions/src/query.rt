@@ -5,9 +5,9 @@ use crate::words::is_left;
 use crate::words::room;
 use item_check::Refusal;
 use position_given::RowCount;
+use position_given::Stored;
 use position_key::PositionKey;
 use position_key::be_u64;
-use position_query::Built;
 use position_query::query::from_query_items;
 use vectors::Cursor;
 use vectors::Met;
@@ -53,13 +53,13 @@ pub(crate) fn from_query_items_met<'a>(x: &'a [u8], a: &'a [u8], rust: &'a [u8])
     pairs_met(a, rust, &out, given, answer)
 }
 
-fn pairs_met<'a>(a: &'a [u8], rust: &'a [u8], out: &'a [u64], given: usize, answer: Built) -> Met {
+fn pairs_met<'a>(a: &'a [u8], rust: &'a [u8], out: &'a [u64], given: usize, answer: Stored) -> Met {
     match answer {
-        Built::Pairs(n) => Met {
+        Stored::Pairs(n, _) => Met {
             recorded: are_pairs(a, out, n) & is_left(out, twice(n), given),
             rust: are_pairs(rust, out, n),
         },
-        Built::Refused(refusal) => {
+        Stored::Refused(refusal) => {
             let met = refusal_met(a, rust, refusal);
             Met {
                 recorded: met.recorded & is_left(out, 0, 0),
@@ -69,7 +69,7 @@ fn pairs_met<'a>(a: &'a [u8], rust: &'a [u8], out: &'a [u64], given: usize, answ
     }
 }
 
-fn with_items(x: &[u8], out: &mut [u64]) -> Built {
+fn with_items(x: &[u8], out: &mut [u64]) -> Stored {
     let mut items = lent::room();
     let at = on(x, after_block(x, FRONT), 12);
     let count = short(x, at) as usize;
@@ -77,7 +77,7 @@ fn with_items(x: &[u8], out: &mut [u64]) -> Built {
     call(x, lent::front(&items, count * 6), out)
 }
 
-fn call(x: &[u8], items: &[u32], out: &mut [u64]) -> Built {
+fn call(x: &[u8], items: &[u32], out: &mut [u64]) -> Stored {
     let at = after_block(x, FRONT);
     let lent = least(short(x, on(x, at, 8)) as usize, out.len());
     from_query_items(

@@ -4,7 +4,7 @@ use mathlib.Core.Path.{sym, ap, _∙_}
 use denote.Ref.{now}
 use borrow.Author.Needs.{needs}
 use Rattle.item_check.specs.Checks.{verdictOf}
-use Rattle.position_intervals.specs.Asked.{lengthOf}
+use Rattle.position_given.specs.Answers.{lengthOf}
 use Rattle.position_plan.proofs.Known.{covered-known, intervals-refused, asked-refused, asked-accepted}
 use Rattle.position_plan.proofs.windows.plan_refetch.Statement.{statement}
 use Rattle.position_plan.proofs.windows.plan_refetch.Tie as tie

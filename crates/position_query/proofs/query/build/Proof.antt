@@ -1,4 +1,4 @@
--- `build` meets its contract: refused for want of room, or written and made canonical. Assumes nothing.
+-- `build` meets its contract: refused for want of room, or written, made canonical and counted. Assumes nothing.
 use Prim.Native.Nat.{_/_, _≤_}
 use mathlib.Core.Path.{sym, _∙_}
 use native.Mathlib.Omega.{arith}
@@ -23,13 +23,20 @@ write-ranges-requires c κs =
     let fits : length (ranges (now (a .pool)) (a .count) (itemsOf (now (a .items)))) ≤ length (now (a .out)) / 2 =
     leb-true _ _ (sym (c .before .before .has-room .ensures) ∙ not-false _ (c .before .if1 .left)) in omega arith
 
+with-total-requires : tie.Need-with-total-requires
+with-total-requires c κs = c .before .before .before .make-canonical .ensures .canonical
+
 returns-2 : tie.Need-returns-2
 returns-2 c =
-    let a = c .before .before .before .before .before .before .before .before .before .before .before .before .before .args in
-    let fits = leb-true _ _ (sym (c .before .before .before .before .before .before .before .before .before .has-room .ensures) ∙ not-false _ (c .before .before .before .before .before .before .before .before .if1 .left)) in
-    let w = c .before .before .before .before .before .before .write-ranges in
-    let m = c .before .before .make-canonical in
-    build-whole (now (a .pool)) (now (a .items)) (a .count) (now (a .out)) (w .result) (w .last .1 .1 .1 .0) (m .last .0) (m .result) fits (w .ensures .0) (w .kept .1 .1 .1 .0) (w .ensures .1) (m .ensures)
+    let made = c .before .before .before .before in
+    let wrote = made .before .before .before .before in
+    let room = wrote .before .before in
+    let a = room .before .before .before .before .before .args in
+    let fits = leb-true _ _ (sym (room .before .has-room .ensures) ∙ not-false _ (room .if1 .left)) in
+    let w = wrote .write-ranges in
+    let m = made .make-canonical in
+    build-whole (now (a .pool)) (now (a .items)) (a .count) (now (a .out)) (w .result) (w .last .1 .1 .1 .0) (m .last .0) (m .result) _ fits
+    (w .ensures .0) (w .kept .1 .1 .1 .0) (w .ensures .1) (m .ensures) (c .with-total .ensures)
 
 pub build-spec : {M : Type 1} → statement M
 build-spec =
@@ -39,5 +46,6 @@ build-spec =
     returns
     write-ranges-requires
     (λ c κs. search needs)
+    with-total-requires
     (λ c. search needs)
     returns-2)

@@ -1,0 +1,9 @@
+pub mod Laws
+pub mod Words
+pub mod Turns
+pub mod Checks
+pub mod Places
+pub mod Covering
+pub mod Uncovering
+pub mod Again
+mod Examples
