@@ -31,6 +31,14 @@ unsafe impl GlobalAlloc for Scarce {
 #[global_allocator]
 static MEMORY: Scarce = Scarce;
 
+/// What is done where 300,000 bytes are granted at once.
+fn with_scarce<T>(act: impl FnOnce() -> T) -> T {
+    GRANTED.set(300_000);
+    let done = act();
+    GRANTED.set(usize::MAX);
+    done
+}
+
 #[test]
 fn no_memory_for_one_more() {
     // 10,000 pairs in room for as many; room for twice as many takes 320,000 bytes
@@ -38,17 +46,16 @@ fn no_memory_for_one_more() {
         .flat_map(|row| [10 * row, 10 * row + 5])
         .collect();
     let mut covered = PositionIntervals::from_stored(words.clone(), 10_000, 50_000).unwrap();
-    GRANTED.set(300_000);
-    let cover = covered.cover(7..8).unwrap_err();
-    let uncover = covered.uncover(2..3).unwrap_err();
+    // nothing is asserted while memory is scarce: to tell of a failure takes some
+    let refused = with_scarce(|| [covered.cover(7..8), covered.uncover(2..3)]);
+    let [cover, uncover] = refused.map(Result::unwrap_err);
     assert_eq!((cover.reason(), uncover), (Reason::NoRoom, cover));
     assert_eq!((covered.pair_words(), covered.len()), (&words[..], 50_000));
     // what needs no room is done all the same
-    covered.cover(5..10).unwrap();
-    assert_eq!(covered.len(), 50_005);
-    covered.uncover(2..3).unwrap();
-    assert_eq!(covered.len(), 50_004);
-    GRANTED.set(usize::MAX);
+    let done = with_scarce(|| covered.cover(5..10).map(|()| covered.len()));
+    assert_eq!(done, Ok(50_005));
+    let done = with_scarce(|| covered.uncover(2..3).map(|()| covered.len()));
+    assert_eq!(done, Ok(50_004));
     covered.cover(99_998..99_999).unwrap();
     assert_eq!(covered.len(), 50_005);
     assert_eq!(covered.into_stored().0.len(), 40_000);
