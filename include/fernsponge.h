@@ -166,7 +166,11 @@ uint64_t fernsponge_rate(const uint8_t *pool, size_t pool_length, const uint32_t
 uint64_t fernsponge_invoice(const uint8_t *pool, size_t pool_length, const uint32_t *words, size_t words_length, const int64_t *amounts,
                             size_t amounts_length, const uint32_t *keys, size_t keys_length, int64_t *sum, uint64_t *without, int64_t *cents);
 
-/* ---- positions. Intervals are pairs of words, start and end, half-open; their length is the number of words */
+/* ---- positions. Intervals are pairs of words, start and end, half-open; their length is the number of words.
+ *
+ * They are canonical (9, above), and fewer pairs would not do: no list of half-open pairs, sorted or not, overlapping or not, empty pairs included,
+ * that covers the same positions has fewer, and a canonical list that covers the same positions is the same list. Both are proved of all
+ * canonical pairs, and so of what from_query_items writes and of what any sequence of cover and uncover leaves. */
 
 /* The position of a key of 8 bytes, the first the greatest. */
 uint64_t fernsponge_be_u64(const uint8_t *key, size_t key_length, uint64_t *position);

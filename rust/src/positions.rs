@@ -36,6 +36,10 @@ pub struct Span {
 
 /// Covered positions: intervals that are not empty, ascend, and stand apart, with the total of the positions in them.
 ///
+/// Fewer intervals would not do: no list of half-open ranges, sorted or not, overlapping or not, empty ranges included, that covers the same
+/// positions has fewer, and no other list of intervals that are not empty, ascend and stand apart covers them. Both are proved of the calls that
+/// make one of items, of ranges or of stored words, and of any covering and uncovering after that.
+///
 /// ```
 /// use fernsponge::{PositionIntervals, Span};
 ///

@@ -1,12 +1,14 @@
 -- Worked lists, by computation. Assumes nothing.
-use mathlib.Core.Path.{_≡_, refl}
-use mathlib.Core.Bool.{true, false}
+use Prim.Native.Nat.{ℕ, zero, suc, _<_}
+use mathlib.Core.Path.{_≡_, refl, ap}
+use mathlib.Core.Bool.{true, false, true≢false}
 use mathlib.Core.List.{List, [], _∷_}
 use native.Mathlib.Omega.{arith}
+use lib.ListN.{length}
 use Rattle.intervals.specs.Lists.{meetsOf, sharedOf, cutsOf, withoutOf}
 use Rattle.intervals.specs.Intervals.{Interval, Strict, Canonical, inside, holds, piece, meet, shared, cut, without}
 use Rattle.intervals.specs.Cover.{growOf, coverOf, cover, coverAll}
-use Rattle.intervals.proofs.Laws.{sweepFrom, sweepOf, stripFrom, stripOf, sweep, strip, joinFrom, join}
+use Rattle.intervals.proofs.Laws.{sweepFrom, sweepOf, stripFrom, stripOf, sweep, strip, joinFrom, join, holds-cover-all}
 
 abbrev left : List Interval
 left = (0, 10) ∷ (10, 20) ∷ (30, 40) ∷ []
@@ -66,3 +68,29 @@ cover-nothing = refl
 cover-all-left : coverAll ((30, 40) ∷ (10, 20) ∷ (7, 3) ∷ (0, 10) ∷ []) ≡ (0, 20) ∷ (30, 40) ∷ []
 unfolding coverAll cover coverOf growOf
 cover-all-left = refl
+
+-- ---- the fewest intervals
+
+-- 02 §14.1: a strict list that touches, as at 10, is longer than need be
+strict-longer : ((x : ℕ) → holds (coverAll left) x ≡ holds left x) × (length (coverAll left) < length left)
+unfolding coverAll cover coverOf growOf
+strict-longer = (holds-cover-all left, omega arith)
+
+-- 02 §14.2: the canonical list is one alone by every number that it holds: these two differ, and of the numbers below 1 they hold the same
+abbrev one : List Interval
+one = (0, 1) ∷ []
+
+abbrev two : List Interval
+two = (0, 2) ∷ []
+
+both-canonical : Canonical one × Canonical two
+both-canonical = ((omega arith, omega arith, tt), (omega arith, omega arith, tt))
+
+alike-below : (x : ℕ) → x < 1 → holds two x ≡ holds one x
+unfolding holds inside
+alike-below zero h = refl
+alike-below (suc x) h = absurd (omega arith)
+
+not-the-same : two ≡ one → ⊥
+unfolding holds inside
+not-the-same e = true≢false (ap (λ (L : List Interval). holds L 1) e)

@@ -1,8 +1,8 @@
 -- Each law that a caller cites, in the order of specs/. Those over things of any type, and those of pieces and of `++`, are
 -- stated in the files that the `pub use` lines name, and passed on. No contract cites this file. Assumes nothing.
-use Prim.Native.Nat.{ℕ, suc, _≤_}
+use Prim.Native.Nat.{ℕ, suc, _≤_, _<_}
 use mathlib.Core.Path.{_≡_, refl, sym, _∙_}
-use mathlib.Core.Bool.{Bool, true, false, _&&_, _||_, not, and-true, and-or-distrib-right}
+use mathlib.Core.Bool.{Bool, true, false, _&&_, _||_, not, true≢false, and-true, and-or-distrib-right}
 use mathlib.Core.List.{List, [], _∷_}
 use native.Mathlib.Decide.{decLt}
 use native.Mathlib.Omega.{arith}
@@ -15,6 +15,7 @@ use Rattle.intervals.proofs.Ordered.{apart→above, shared-above, witho
 use Rattle.intervals.proofs.Algebra.{meets-shared, shared-cons, without-cuts}
 use Rattle.intervals.proofs.Members.{holds-meets, holds-cuts, and-nor, either-way, never-both, below, in-it, past, where-is, inside-below, inside-past}
 use Rattle.intervals.proofs.Unique.{apart-unique}
+use Rattle.intervals.proofs.Fewest.{apart-fewest}
 use Rattle.intervals.proofs.Joined.{holds-join-from, join-from-apart}
 use Rattle.intervals.proofs.Covers.{holds-cover-of, cover-of-apart, length-cover-of}
 use Rattle.intervals.proofs.Uncovers.{cuts-apart, length-cuts}
@@ -30,6 +31,7 @@ pub use Rattle.intervals.proofs.Sweeps.{strip-first, strip-second, stri
 pub use Rattle.intervals.proofs.Ordered.{apart-weaken}
 pub use Rattle.intervals.proofs.Pieces.{piece-some, piece-none}
 pub use Rattle.intervals.proofs.Members.{holds-append, holds-piece, Parts}
+pub use Rattle.intervals.proofs.Unique.{holds-below}
 pub use Rattle.intervals.proofs.Passes.{sweep, strip}
 pub use Rattle.intervals.proofs.Joined.{Rising}
 unfoldable pub use Rattle.intervals.proofs.Joined.{joinFrom, join}
@@ -41,8 +43,21 @@ pub use Rattle.intervals.proofs.Covers.{grow-stop, grow-more, cover-ski
 pub canonical→strict : (A : List Interval) → Canonical A → Strict A
 canonical→strict A = apart→above 0 A
 
+-- 02 §14.2: of the canonical lists that hold the same there is one
 pub canonical-unique : (A B : List Interval) → Canonical A → Canonical B → ((x : ℕ) → holds A x ≡ holds B x) → A ≡ B
 canonical-unique A B = apart-unique 0 0 A B
+
+-- 02 §14.1, reading B25: no list of intervals, in any order, overlapping or not, empty ones among them, that holds the same is shorter
+pub canonical-fewest : (A B : List Interval) → Canonical A → ((x : ℕ) → holds B x ≡ holds A x) → length A ≤ length B
+canonical-fewest A B hA same = apart-fewest 0 A B hA (λ x y l m h. same x)
+
+-- 02 §14.1: nor one that holds the same below n and anything past it, where the canonical one holds nothing from n on
+pub canonical-fewest-below : (n : ℕ) (A B : List Interval) → Canonical A → ((x : ℕ) → n ≤ x → holds A x ≡ false)
+    → ((x : ℕ) → x < n → holds B x ≡ holds A x) → length A ≤ length B
+canonical-fewest-below n A B hA none same = apart-fewest 0 A B hA (λ x y l m h. elim (decLt y n) [
+  | yes k ↦ same x (omega arith)
+  | no k ↦ absurd (true≢false (sym h ∙ none y (omega arith)))
+])
 
 -- ---- what two lists share
 

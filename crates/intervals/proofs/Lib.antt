@@ -8,6 +8,7 @@ pub mod Ordered
 pub mod Algebra
 pub mod Members
 pub mod Unique
+pub mod Fewest
 pub mod Joined
 pub mod Covers
 pub mod Uncovers

@@ -14,22 +14,22 @@ Same L M = (x : ℕ) → holds L x ≡ holds M x
 
 -- ---- what a list holds of its first interval, past it, and below its start
 
-holds-head : (a : Interval) (A : List Interval) (x : ℕ) → a .0 ≤ x → x < a .1 → holds (a ∷ A) x ≡ true
+pub holds-head : (a : Interval) (A : List Interval) (x : ℕ) → a .0 ≤ x → x < a .1 → holds (a ∷ A) x ≡ true
 unfolding holds
 holds-head a A x h k = rw (inside-yes (a .0) (a .1) x h k)
 
-holds-tail : (a : Interval) (A : List Interval) (x : ℕ) → a .1 ≤ x → holds (a ∷ A) x ≡ holds A x
+pub holds-tail : (a : Interval) (A : List Interval) (x : ℕ) → a .1 ≤ x → holds (a ∷ A) x ≡ holds A x
 unfolding holds
 holds-tail a A x h = rw (inside-past (a .0) (a .1) x h)
 
-holds-below : (lo : ℕ) (A : List Interval) (x : ℕ) → Apart lo A → x < lo → holds A x ≡ false
+pub holds-below : (lo : ℕ) (A : List Interval) (x : ℕ) → Apart lo A → x < lo → holds A x ≡ false
 unfolding holds
 holds-below lo [] x hA h = refl
 holds-below lo (a ∷ A) x hA h =
     rw (inside-below (a .0) (a .1) x (omega arith)) (holds-below (suc (a .1)) A x (hA .2) (omega arith))
 
 -- the number that ends the first interval is in none
-holds-gap : (a : Interval) (A : List Interval) → Apart (suc (a .1)) A → holds (a ∷ A) (a .1) ≡ false
+pub holds-gap : (a : Interval) (A : List Interval) → Apart (suc (a .1)) A → holds (a ∷ A) (a .1) ≡ false
 holds-gap a A hA = holds-tail a A (a .1) (omega arith) ∙ holds-below (suc (a .1)) A (a .1) hA (omega arith)
 
 -- ---- heads and tails of two lists that hold the same

@@ -1,17 +1,12 @@
 -- Canonical lists and their parts: what a part can hold. Assumes nothing.
-use Prim.Native.Nat.{ℕ, suc, _≤_, _<_}
+use Prim.Native.Nat.{ℕ, suc, _≤_}
 use mathlib.Core.Path.{_≡_, refl}
 use mathlib.Core.Bool.{false}
 use mathlib.Core.List.{List, [], _∷_, _++_}
 use native.Mathlib.Omega.{arith}
 use Rattle.intervals.specs.Intervals.{Interval, Apart, holds}
-use Rattle.intervals.proofs.Members.{inside-below, inside-past}
+use Rattle.intervals.proofs.Members.{inside-past}
 use Rattle.intervals.proofs.Laws.{apart-weaken}
-
-pub apart-below : (lo : ℕ) (A : List Interval) (p : ℕ) → Apart lo A → p < lo → holds A p ≡ false
-unfolding holds
-apart-below lo [] p a h = refl
-apart-below lo (b ∷ A) p a h = rw (inside-below (b .0) (b .1) p (omega arith)) (apart-below (suc (b .1)) A p (a .2) (omega arith))
 
 pub apart-front : (lo : ℕ) (A B : List Interval) → Apart lo (A ++ B) → Apart lo A
 apart-front lo [] B h = tt

@@ -5,11 +5,11 @@ use mathlib.Core.List.{List}
 use native.Mathlib.Decide.{decLt}
 use native.Mathlib.Omega.{arith}
 use lib.ListN.{length, take, List·getD-eq-default}
-use lib.Seq.{length-take-le, getD-take}
+use lib.Seq.{length-take-le}
 use Rattle.intervals.specs.Intervals.{Interval, Canonical}
 use Rattle.item_check.specs.Checks.{answered}
 use Rattle.pairs_sort.specs.Pairs.{pairs, flatPairs}
-use Rattle.pairs_sort.proofs.Laws.{pairs-kept, pairs-flat, length-flat}
+use Rattle.pairs_sort.proofs.Laws.{pairs-take, pairs-flat, length-flat}
 use Rattle.position_given.specs.Given.{intervalsOf}
 use Rattle.position_given.specs.Positions.{rowsOf}
 use Rattle.position_given.specs.Answers.{rowsAnswer}
@@ -31,10 +31,7 @@ canonical-fits ws (suc k) C = elim (decLt (2 * k + 1) (length ws)) [
 pub front-pairs : (ws : List ℕ) (m : ℕ) → 2 * m ≤ length ws → intervalsOf (take (2 * m) ws) ≡ pairs ws m
 front-pairs ws m h =
     let half : 2 * m / 2 ≡ m = omega arith in
-    rw (length-take-le (2 * m) ws h, half)
-    (pairs-kept ws (take (2 * m) ws) m 0
-    (λ j l k. getD-take (2 * m) ws (2 * j) 0 (omega arith))
-    (λ j l k. getD-take (2 * m) ws (2 * j + 1) 0 (omega arith)))
+    rw (length-take-le (2 * m) ws h, half) (pairs-take ws (2 * m) m (omega arith))
 
 module _ (ws : List ℕ) (m : ℕ) (C : Canonical (pairs ws m)) where
   pub front-intervals : intervalsOf (take (2 * m) ws) ≡ pairs ws m

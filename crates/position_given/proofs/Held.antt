@@ -10,11 +10,11 @@ use lib.Dec.{leb, ltb}
 use borrow.Author.Tests.{lt-ltb, le-ltb}
 use Rattle.intervals.specs.Intervals.{Interval, Canonical, inside, holds}
 use Rattle.intervals.proofs.Members.{inside-past}
-use Rattle.intervals.proofs.Laws.{holds-append}
+use Rattle.intervals.proofs.Laws.{holds-append, holds-below}
 use Rattle.pairs_sort.specs.Pairs.{start, finish, pairsFrom, pairs}
 use Rattle.pairs_sort.proofs.Laws.{pairs-append, pairs-more}
 use Rattle.position_given.specs.Given.{intervalsOf}
-use Rattle.position_given.proofs.Apart.{apart-below, apart-back}
+use Rattle.position_given.proofs.Apart.{apart-back}
 
 past-none : (ws : List ℕ) (k i p : ℕ) → ((j : ℕ) → i ≤ j → j < i + k → finish ws j ≤ p) → holds (pairsFrom ws i k) p ≡ false
 unfolding holds pairsFrom
@@ -34,7 +34,7 @@ held-at ws r p C h f = elim (decLt r (length ws / 2)) [
       let split : pairs ws n ≡ pairs ws r ++ pairsFrom ws r (n - r) =
       ap (λ (m : ℕ). pairs ws m) q ∙ pairs-append ws r (n - r) 0 ∙ ap (λ (j : ℕ). pairs ws r ++ pairsFrom ws j (n - r)) z in
       let back = rw (pairs-more ws r n l) at (apart-back 0 (pairs ws r) (pairsFrom ws r (n - r)) (rw split at C)) in
-      let later : holds (pairsFrom ws (r + 1) (n - (r + 1))) p ≡ false = apart-below (suc (finish ws r)) _ p (back .2) (omega (arith, f l)) in
+      let later : holds (pairsFrom ws (r + 1) (n - (r + 1))) p ≡ false = holds-below (suc (finish ws r)) _ p (back .2) (omega (arith, f l)) in
       rw (lt-ltb r n l, split, holds-append (pairs ws r) (pairsFrom ws r (n - r)) p, past-none ws r 0 p (λ j a b. h j (omega arith)), pairs-more ws r n l)
       (one (start ws r) (finish ws r) (pairsFrom ws (r + 1) (n - (r + 1))) (f l) later)
   | no l ↦ rw (le-ltb r (length ws / 2) (omega arith)) (past-none ws (length ws / 2) 0 p (λ j a b. h j (omega arith)))

@@ -6,14 +6,14 @@ use mathlib.Core.List.{List, _∷_, _++_}
 use native.Mathlib.Omega.{arith}
 use lib.Dec.{leb, ltb}
 use lib.ListN.{length, getD, take, drop, length-drop}
-use lib.Seq.{take-all, length-take-le, getD-take, getD-drop}
+use lib.Seq.{take-all, length-take-le, getD-drop}
 use Rattle.intervals.specs.Intervals.{Apart, inside, holds}
-use Rattle.intervals.proofs.Laws.{holds-append}
+use Rattle.intervals.proofs.Laws.{holds-append, holds-below}
 use Rattle.pairs_sort.specs.Pairs.{start, finish, pairsFrom, pairs}
-use Rattle.pairs_sort.proofs.Laws.{pairs-kept, pairs-append, pairs-more}
+use Rattle.pairs_sort.proofs.Laws.{pairs-take, pairs-append, pairs-more}
 use Rattle.position_given.specs.Given.{intervalsOf}
 use Rattle.position_given.specs.Inner.{Sound}
-use Rattle.position_given.proofs.Apart.{apart-below, apart-front, apart-back, apart-above}
+use Rattle.position_given.proofs.Apart.{apart-front, apart-back, apart-above}
 
 -- ---- no pair, and one
 
@@ -38,7 +38,7 @@ shifted ws cut even (suc k) i j e =
 module _ (ws : List ℕ) (cut : ℕ) (S : Sound ws) (even : cut % 2 ≡ 0) (l : cut < length ws) where
   -- the pairs of the first half, and of the second
   fronts : intervalsOf (take cut ws) ≡ pairs ws (cut / 2)
-  fronts = rw (length-take-le cut ws (omega arith)) (pairs-kept ws (take cut ws) (cut / 2) 0 (λ j h k. getD-take cut ws (2 * j) 0 (omega arith)) (λ j h k. getD-take cut ws (2 * j + 1) 0 (omega arith)))
+  fronts = rw (length-take-le cut ws (omega arith)) (pairs-take ws cut (cut / 2) (omega arith))
 
   -- the tail as the borrow checker says it
   tail-is : take (length ws - cut) (drop cut ws) ≡ drop cut ws
@@ -86,7 +86,7 @@ module _ (ws : List ℕ) (cut : ℕ) (S : Sound ws) (even : cut % 2 ≡ 0) (l : 
   low p h =
       let back : Apart 0 (pairsFrom ws (cut / 2) (length ws / 2 - cut / 2)) = apart-back 0 (pairs ws (cut / 2)) _ apart in
       let none : holds (pairsFrom ws (cut / 2) (length ws / 2 - cut / 2)) p ≡ false =
-      (let up = rw first at back in rw first (apart-below (start ws (cut / 2)) _ p (omega arith, up .1, up .2) (omega (arith, at-cut)))) in
+      (let up = rw first at back in rw first (holds-below (start ws (cut / 2)) _ p (omega arith, up .1, up .2) (omega (arith, at-cut)))) in
       rw (fronts, whole, holds-append (pairs ws (cut / 2)) (pairsFrom ws (cut / 2) (length ws / 2 - cut / 2)) p, none, or-false)
 
   pub high : (p : ℕ) → getD ws cut 0 ≤ p → holds (intervalsOf (take (length ws - cut) (drop cut ws))) p ≡ holds (intervalsOf ws) p

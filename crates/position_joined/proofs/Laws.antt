@@ -1,9 +1,9 @@
 -- From query items to answers: where `from_query_items` answers m pairs of t rows, these pairs at the front of the lent words are accepted by
 -- `contains`, `len`, `is_empty`, `missing_from`, `extra_in`, `missing_from_spans`, `plan_refetch` and `check_plan`, and these answer what the items
--- cover; they are a stored list, of which `cover` and `uncover` leave what the items cover, with the range or without it. Stated of each call's own
--- promise: r is what `from_query_items` answers, old and new are the lent words before and after. And what the calls that ask of intervals answer
--- of any stored list. No contract cites this file. Assumes nothing.
-use Prim.Native.Nat.{ℕ, _*_, _/_, _%_, _<_}
+-- cover; they are a stored list, of which `cover` and `uncover` leave what the items cover, with the range or without it, in as few pairs as any
+-- list has that covers it. Stated of each call's own promise: r is what `from_query_items` answers, old and new are the lent words before and after.
+-- And what the calls that ask of intervals answer of any stored list. No contract cites this file. Assumes nothing.
+use Prim.Native.Nat.{ℕ, _*_, _/_, _%_, _≤_, _<_}
 use mathlib.Core.Path.{_≡_, refl, sym, ap, _∙_}
 use mathlib.Core.Bool.{Bool, false, not, _&&_, _||_}
 use mathlib.Core.List.{List}
@@ -12,7 +12,7 @@ use lib.Dec.{eqb}
 use lib.ListN.{length, take}
 use borrow.Author.Tests.{eq-eqb, ne-eqb}
 use Rattle.intervals.specs.Lists.{keep}
-use Rattle.intervals.specs.Intervals.{Interval, inside, holds}
+use Rattle.intervals.specs.Intervals.{Interval, Canonical, inside, holds}
 use Rattle.item_check.specs.Checks.{Answer, answered, refused, Verdict, accepted, andThen, itemsOf}
 use Rattle.pairs_sort.specs.Pairs.{pairs}
 use Rattle.position_given.specs.Given.{intervalsOf, intervalsVerdict}
@@ -30,7 +30,8 @@ use Rattle.position_mismatch.proofs.Positions.{in-positions, ascends-spans, kee
 use Rattle.position_plan.specs.Plans.{accepts, plan, fitted, planAnswer, checkAnswer}
 use Rattle.position_stored.specs.Stored.{totalAnswer, coverAnswer, coverWords, uncoverAnswer, uncoverWords}
 use Rattle.position_stored.specs.Inner.{StoredList}
-use Rattle.position_stored.proofs.Laws.{total-read, covered-holds, uncovered-holds, Step, Right, steps, steps-right}
+use Rattle.position_stored.proofs.Laws.{total-read, covered-holds, uncovered-holds}
+use Rattle.position_stored.proofs.Sequences.{Step, Kept, steps, Right, steps-right, keptRows, stepsRows, steps-holds, steps-fewest, steps-unique}
 use Rattle.position_joined.proofs.Covered.{covered-positions}
 
 module _ (pool ws : List ℕ) (count : ℕ) (old new : List ℕ) (r : Answer (ℕ × ℕ))
@@ -69,9 +70,30 @@ module _ (pool ws : List ℕ) (count : ℕ) (old new : List ℕ) (r : Answer (�
       → holds (pairs (uncoverWords new m t s e) n) p ≡ covered pool (itemsOf ws) count p && not (inside s e p)
   built-uncovered s e n k h p = uncovered-holds new m t s e n k h p ∙ ap (λ (b : Bool). b && not (inside s e p)) (C .covers p)
 
+  -- what a caller keeps of it: the words, how many pairs, the total
+  abbrev pub built : Kept
+  built = record { words = new; count = m; total = t }
+
   -- 02 §4.4, §4.6: through building and any sequence of changes, answered or refused, the total that is kept is what counting afresh gives
-  pub built-right : (xs : List Step) → Right (steps (record { words = new; count = m; total = t }) xs)
-  built-right xs = steps-right (record { words = new; count = m; total = t }) xs built-stored
+  pub built-right : (xs : List Step) → Right (steps built xs)
+  built-right xs = steps-right built xs built-stored
+
+  -- after building and any sequence of changes. The rows then, which `stepsRows` tells, are those that the items cover, with what each answered
+  -- cover adds and without what each answered uncover takes away
+  module _ (xs : List Step) where
+    -- 02 §4.2, §4.3: the list that is kept covers these, and no others
+    pub built-holds : (p : ℕ) → keptRows (steps built xs) p ≡ stepsRows built xs (covered pool (itemsOf ws) count) p
+    built-holds = steps-holds built xs (covered pool (itemsOf ws) count) built-stored (C .covers)
+
+    -- 02 §14.1, §14.3: no list of half-open pairs that covers these rows has fewer than are kept
+    pub built-fewest : (B : List Interval) → ((p : ℕ) → holds B p ≡ stepsRows built xs (covered pool (itemsOf ws) count) p)
+        → steps built xs .count ≤ length B
+    built-fewest = steps-fewest built xs (covered pool (itemsOf ws) count) built-stored (C .covers)
+
+    -- 02 §14.2, §14.3: a canonical list that covers these rows is the one that is kept
+    pub built-unique : (A : List Interval) → Canonical A → ((p : ℕ) → holds A p ≡ stepsRows built xs (covered pool (itemsOf ws) count) p)
+        → pairs (steps built xs .words) (steps built xs .count) ≡ A
+    built-unique = steps-unique built xs (covered pool (itemsOf ws) count) built-stored (C .covers)
 
   -- 01 m6.3, m6.8: `contains` answers whether a position is covered
   pub built-contains : (p : ℕ) → containsAnswer (take (2 * m) new) p ≡ answered (covered pool (itemsOf ws) count p)

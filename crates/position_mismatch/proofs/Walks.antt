@@ -12,14 +12,14 @@ use borrow.Author.Tests.{lt-ltb, le-ltb}
 use Rattle.intervals.specs.Lists.{keep}
 use Rattle.intervals.specs.Intervals.{Interval, Apart, Canonical, inside, holds}
 use Rattle.intervals.proofs.Members.{where-is, below, in-it, past, inside-below, inside-yes, inside-past}
-use Rattle.intervals.proofs.Laws.{canonical→strict, holds-append, keep-append}
+use Rattle.intervals.proofs.Laws.{canonical→strict, holds-append, holds-below, keep-append}
 use Rattle.pairs_sort.specs.Pairs.{start, finish, pairsFrom, pairs}
 use Rattle.pairs_sort.proofs.Laws.{pairs-more, pairs-end, pairs-snoc, pairs-append}
 use Rattle.position_given.specs.Given.{intervalsOf}
 use Rattle.position_given.specs.Positions.{countUp, positionsOf}
 use Rattle.position_given.specs.Inner.{Sound, Ascends, lastWord}
 use Rattle.position_given.proofs.Rows.{positions-append}
-use Rattle.position_given.proofs.Apart.{apart-below, apart-back}
+use Rattle.position_given.proofs.Apart.{apart-back}
 use Rattle.position_given.proofs.Widths.{Words, length-count, ends-of, ends-held}
 use Rattle.position_report.specs.declared.PositionMismatch.{PositionMismatch}
 use Rattle.position_report.specs.Reports.{reportOf}
@@ -84,7 +84,7 @@ until-report (d ∷ A) lo w l to a e b =
   where
     above : (e : ℕ) (A : List Interval) (p : ℕ) → Apart (suc e) A → holds A p ≡ true → (x to : ℕ) → to ≤ e → inside x to p ≡ false
     above e A p a h x to l = elim (decLt p (suc e)) [
-      | yes k ↦ absurd (true≢false (sym h ∙ apart-below (suc e) A p a k))
+      | yes k ↦ absurd (true≢false (sym h ∙ holds-below (suc e) A p a k))
       | no k ↦ inside-past x to p (omega arith)
     ]
 

@@ -1,5 +1,5 @@
--- Each law that a caller cites, in the order of specs/: which positions an item holds, that there is one answer, and what it is. No contract
--- cites this file. Assumes nothing.
+-- Each law that a caller cites, in the order of specs/: which positions an item holds, that there is one answer, that no list of pairs that covers
+-- the same has fewer, and what the answer is. No contract cites this file. Assumes nothing.
 use Prim.Native.Nat.{ℕ, zero, suc, _+_, _-_, _*_, _/_, _≤_, _<_}
 use mathlib.Core.Path.{_≡_, refl, sym, ap, _∙_}
 use mathlib.Core.Bool.{false}
@@ -11,7 +11,7 @@ use lib.Seq.{ext-getD, getD-drop}
 use borrow.Author.Tests.{le-ltb}
 use Rattle.intervals.specs.Intervals.{Interval}
 use Rattle.intervals.specs.Intervals as interval
-use Rattle.intervals.proofs.Laws.{canonical-unique, cover-all-unique}
+use Rattle.intervals.proofs.Laws.{canonical-unique, canonical-fewest-below, cover-all-unique}
 use Rattle.key_order.proofs.Words.{Bytes}
 use Rattle.query_item.specs.declared.ItemWords.{ItemWords}
 use Rattle.item_check.specs.Checks.{Answer, answered, refused, accepted, andThen, poolVerdict, shapeVerdict, itemsOf}
@@ -27,10 +27,10 @@ pub use Rattle.position_query.proofs.Ranges.{item-held}
 
 -- ---- one answer of `from_query_items`
 
--- u64::MAX is below no count, so that it is covered never
-pub last-never : (pool : List ℕ) (its : List ItemWords) (count : ℕ) → count ≤ lastWord → covered pool its count lastWord ≡ false
+-- 01 m6.3: what is not below the count is never covered, and so u64::MAX, which is below none, is not
+pub past-never : (pool : List ℕ) (its : List ItemWords) (count p : ℕ) → count ≤ p → covered pool its count p ≡ false
 unfolding covered
-last-never pool its count h = rw (le-ltb lastWord count h)
+past-never pool its count p h = rw (le-ltb p count h)
 
 -- there is one list of canonical pairs that holds exactly the covered positions
 pub covers-unique : (pool ws : List ℕ) (count : ℕ) (old new new′ : List ℕ) (m m′ t t′ : ℕ) → Covers pool ws count old new m t
@@ -98,6 +98,30 @@ module _ (pool ws : List ℕ) (count : ℕ) (old new new′ : List ℕ) (l : len
       let b : s ≡ s′ = cc in
       let d : i ≡ i′ = cc in
       ((λ j. refused (a j) (b j) (d j)), F .kept n s i refl ∙ sym (G .kept n′ s′ i′ refl))
+
+-- ---- the fewest pairs
+
+-- of an answer: m pairs, which cover t rows, stand at the front of the new words
+module _ (pool ws : List ℕ) (count : ℕ) (old new : List ℕ) (r : Answer (ℕ × ℕ)) (F : FromQueryItems pool ws count old new r)
+    (m t : ℕ) (is : r ≡ answered (m, t)) where
+  -- 02 §14.1, reading B25: no list of half-open pairs that covers the same of the rows below the count, whatever it covers past them, has fewer
+  -- pairs: in any order, overlapping or not, empty ones among them
+  pub written-fewest : (B : List Interval) → ((p : ℕ) → p < count → interval.holds B p ≡ covered pool (itemsOf ws) count p) → m ≤ length B
+  written-fewest B same =
+      let C = F .written m t is in
+      omega (
+        arith,
+        pairs-length new m 0,
+        canonical-fewest-below count (pairs new m) B (C .canonical)
+            (λ p h. C .covers p ∙ past-never pool (itemsOf ws) count p h) (λ p h. same p h ∙ sym (C .covers p)),
+      )
+
+  -- 02 §14.2: a canonical list that covers the same positions is the list that is written
+  pub written-unique : (A : List Interval) → interval.Canonical A → ((p : ℕ) → interval.holds A p ≡ covered pool (itemsOf ws) count p)
+      → pairs new m ≡ A
+  written-unique A hA same =
+      let C = F .written m t is in
+      canonical-unique (pairs new m) A (C .canonical) hA (λ p. C .covers p ∙ sym (same p))
 
 -- ---- the answer of `from_query_items`, computed
 

@@ -1,23 +1,23 @@
--- Each law that a caller cites, in the order of specs/: what an accepted stored list is, what the two changes make of one, and that its total stays
--- right through any sequence of them. Stated of the calls' own answers and of the words that they leave. No contract cites this file. Assumes
--- nothing.
-use Prim.Native.Nat.{ℕ, _+_, _*_, _/_, _≤_}
+-- Each law that a caller cites, in the order of specs/: what an accepted stored list is, that no list of pairs that covers the same has fewer, and
+-- what the two changes make of one; any sequence of them is in Sequences.antt. Stated of the calls' own answers and of the words that they leave.
+-- No contract cites this file. Assumes nothing.
+use Prim.Native.Nat.{ℕ, _+_, _*_, _/_, _≤_, _<_}
 use mathlib.Core.Path.{_≡_, refl, sym, ap, _∙_}
 use mathlib.Core.Logic.{_↔_}
 use mathlib.Core.Bool.{true, false, not, _&&_, _||_}
-use mathlib.Core.List.{List, [], _∷_, _++_}
+use mathlib.Core.List.{List, [], _++_}
 use native.Mathlib.Omega.{arith}
-use lib.ListN.{length, take, length-append, List·getD-append}
-use lib.Seq.{length-take-le, getD-take}
+use lib.ListN.{length, take, length-append}
+use lib.Seq.{length-take-le}
 use Rattle.intervals.specs.Intervals.{Interval, Canonical, inside, holds}
 use Rattle.intervals.specs.Cover.{cover, uncover}
 use Rattle.intervals.proofs.Laws as interval
-use Rattle.item_check.specs.Checks.{Answer, answered, refused, accepted}
+use Rattle.item_check.specs.Checks.{answered, accepted}
 use Rattle.pairs_sort.specs.Pairs.{pairsFrom, pairs}
-use Rattle.pairs_sort.proofs.Laws.{pairs-length, pairs-kept}
+use Rattle.pairs_sort.proofs.Laws.{pairs-length, pairs-take, pairs-longer}
 use Rattle.position_given.specs.Positions.{positionsOf, rowsOf}
 use Rattle.position_given.proofs.Laws.{newly, rows-newly, already, rows-already}
-use Rattle.position_stored.specs.Stored.{storedVerdict, totalAnswer, changeAnswer, changeWords, coverAnswer, coverWords, uncoverAnswer, uncoverWords}
+use Rattle.position_stored.specs.Stored.{storedVerdict, totalAnswer, changeAnswer, coverAnswer, coverWords, uncoverAnswer, uncoverWords}
 use Rattle.position_stored.specs.Inner.{StoredList}
 use Rattle.position_stored.proofs.Checks.{stored, stored-accepts}
 use Rattle.position_stored.proofs.Again.{Changed, changed, changed-pairs, changed-length, changed-stored, change-answered, change-same}
@@ -32,6 +32,22 @@ stored-exactly ws count total = (stored ws count total, stored-accepts ws count 
 -- 02 §4.6: the total that is read is the stored one
 pub total-read : (ws : List ℕ) (count total : ℕ) → StoredList ws count total → totalAnswer ws count total ≡ answered total
 total-read ws count total S = rw (stored-accepts ws count total S, S .right)
+
+module _ (ws : List ℕ) (count total : ℕ) (S : StoredList ws count total) where
+  -- 02 §14.1, §14.3, reading B25: no list of half-open pairs that covers the same rows has fewer: in any order, overlapping or not, empty ones
+  -- among them
+  pub stored-fewest : (B : List Interval) → ((x : ℕ) → holds B x ≡ holds (pairs ws count) x) → count ≤ length B
+  stored-fewest B same = omega (arith, pairs-length ws count 0, interval.canonical-fewest (pairs ws count) B (S .canonical) same)
+
+  -- 02 §14.1, §14.3: nor one that covers the same of the rows below a number, whatever it covers past them, where the list covers none of those
+  pub stored-fewest-below : (rows : ℕ) → ((x : ℕ) → rows ≤ x → holds (pairs ws count) x ≡ false)
+      → (B : List Interval) → ((x : ℕ) → x < rows → holds B x ≡ holds (pairs ws count) x) → count ≤ length B
+  stored-fewest-below rows none B same =
+      omega (arith, pairs-length ws count 0, interval.canonical-fewest-below rows (pairs ws count) B (S .canonical) none same)
+
+  -- 02 §14.2, §14.3: a canonical list that covers the same rows is the same list
+  pub stored-unique : (A : List Interval) → Canonical A → ((x : ℕ) → holds A x ≡ holds (pairs ws count) x) → pairs ws count ≡ A
+  stored-unique A hA same = interval.canonical-unique (pairs ws count) A (S .canonical) hA (λ x. sym (same x))
 
 -- ---- a range covered
 
@@ -56,8 +72,13 @@ module _ (ws : List ℕ) (count total s e n m : ℕ) (h : coverAnswer ws count t
   pub covered-stored : StoredList left n m
   covered-stored = changed-stored told (interval.cover-canonical held s e canonical)
 
+  -- 02 §14.1, §14.3: no list of half-open pairs that holds that has fewer
+  pub covered-fewest : (B : List Interval) → ((x : ℕ) → holds B x ≡ inside s e x || holds held x) → n ≤ length B
+  covered-fewest B same = stored-fewest left n m covered-stored B (λ x. same x ∙ sym (covered-holds x))
+
+  -- 02 §14.2, §14.3: a canonical list that holds that is the same list
   pub covered-unique : (A : List Interval) → Canonical A → ((x : ℕ) → holds A x ≡ inside s e x || holds held x) → pairs left n ≡ A
-  covered-unique A C same = changed-pairs told ∙ sym (interval.cover-unique held s e canonical A C same)
+  covered-unique A C same = stored-unique left n m covered-stored A C (λ x. same x ∙ sym (covered-holds x))
 
   -- the total after covering: that before, and the rows newly covered
   pub covered-total : m ≡ total + length (newly held s e)
@@ -132,8 +153,13 @@ module _ (ws : List ℕ) (count total s e n m : ℕ) (h : uncoverAnswer ws count
       ∙ rows-already had s e (known .before .canonical)
       ∙ ap (λ (k : ℕ). k + length (already had s e)) (sym (known .rows))
 
+  -- 02 §14.1, §14.3: no list of half-open pairs that holds that has fewer
+  pub uncovered-fewest : (B : List Interval) → ((x : ℕ) → holds B x ≡ holds had x && not (inside s e x)) → n ≤ length B
+  uncovered-fewest B same = stored-fewest kept n m uncovered-stored B (λ x. same x ∙ sym (uncovered-holds x))
+
+  -- 02 §14.2, §14.3: a canonical list that holds that is the same list
   pub uncovered-unique : (A : List Interval) → Canonical A → ((x : ℕ) → holds A x ≡ holds had x && not (inside s e x)) → pairs kept n ≡ A
-  uncovered-unique A C same = changed-pairs known ∙ sym (interval.uncover-unique had s e (known .before .canonical) A C same)
+  uncovered-unique A C same = stored-unique kept n m uncovered-stored A C (λ x. same x ∙ sym (uncovered-holds x))
 
 -- ---- a range that is none
 
@@ -168,83 +194,21 @@ unfolding pairsFrom positionsOf
 stored-none = record { within = omega arith; canonical = tt; right = refl }
 
 module _ (ws : List ℕ) (count total : ℕ) (S : StoredList ws count total) where
+  pub stored-room : 2 * count ≤ length ws
+  stored-room = omega (arith, S .within)
+
   -- more words behind it change nothing
   pub stored-longer : (R : List ℕ) → StoredList (ws ++ R) count total
-  stored-longer R =
-      let same : pairs (ws ++ R) count ≡ pairs ws count = pairs-kept ws (ws ++ R) count 0
-      (λ j l k. List·getD-append ws R 0 (2 * j) (omega (arith, S .within)))
-      (λ j l k. List·getD-append ws R 0 (2 * j + 1) (omega (arith, S .within))) in
-      record {
-        within = omega (arith, length-append ws R, S .within);
-        canonical = rw same (S .canonical);
-        right = ap rowsOf same ∙ S .right;
-      }
+  stored-longer R = record {
+    within = omega (arith, length-append ws R, S .within);
+    canonical = rw (pairs-longer ws R count stored-room) (S .canonical);
+    right = ap rowsOf (pairs-longer ws R count stored-room) ∙ S .right;
+  }
 
   -- nor are there any needed
   pub stored-alone : StoredList (take (2 * count) ws) count total
-  stored-alone =
-      let size : length (take (2 * count) ws) ≡ 2 * count = length-take-le (2 * count) ws (omega (arith, S .within)) in
-      let same : pairs (take (2 * count) ws) count ≡ pairs ws count = pairs-kept ws (take (2 * count) ws) count 0
-      (λ j l k. getD-take (2 * count) ws (2 * j) 0 (omega arith))
-      (λ j l k. getD-take (2 * count) ws (2 * j + 1) 0 (omega arith)) in
-      record {
-        within = omega (arith, size);
-        canonical = rw same (S .canonical);
-        right = ap rowsOf same ∙ S .right;
-      }
-
--- ---- any sequence of changes
-
--- what is done to a list that is kept: a range is covered or uncovered, the buffer gets more words, or the list is copied without spare ones
-pub data Step : Type 0 where
-  covering : ℕ → ℕ → Step
-  uncovering : ℕ → ℕ → Step
-  growing : List ℕ → Step
-  copying : Step
-
--- what a caller keeps: the words, how many pairs, the total
-pub record Kept : Type 0 where
-  pub words : List ℕ
-  pub count : ℕ
-  pub total : ℕ
-
--- the words that a call has left, and the numbers of its answer; where it refuses the numbers are as they were
-abbrev pub after : Kept → List ℕ → Answer (ℕ × ℕ) → Kept
-after k vs (answered a) = record { words = vs; count = a .0; total = a .1 }
-after k vs (refused number side index) = record { words = vs; count = k .count; total = k .total }
-
-abbrev pub step : Kept → Step → Kept
-step k (covering s e) = after k (coverWords (k .words) (k .count) (k .total) s e) (coverAnswer (k .words) (k .count) (k .total) s e)
-step k (uncovering s e) = after k (uncoverWords (k .words) (k .count) (k .total) s e) (uncoverAnswer (k .words) (k .count) (k .total) s e)
-step k (growing R) = record { words = k .words ++ R; count = k .count; total = k .total }
-step k copying = record { words = take (2 * k .count) (k .words); count = k .count; total = k .total }
-
-abbrev pub steps : Kept → List Step → Kept
-steps k [] = k
-steps k (x ∷ xs) = steps (step k x) xs
-
-abbrev pub Right : Kept → Type 0
-Right k = StoredList (k .words) (k .count) (k .total)
-
--- a change of a list that is kept, answered or refused: it is right where what an answered one leaves is
-change-right : (k : Kept) (A : List Interval) → Right k → Canonical A
-    → Right (after k (changeWords (k .words) (k .count) (k .total) A) (changeAnswer (k .words) (k .count) (k .total) A))
-change-right k A R C = go (changeAnswer (k .words) (k .count) (k .total) A) refl
-  where
-    go : (r : Answer (ℕ × ℕ)) → changeAnswer (k .words) (k .count) (k .total) A ≡ r
-        → Right (after k (changeWords (k .words) (k .count) (k .total) A) r)
-    go (answered a) q = changed-stored (changed (k .words) (k .count) (k .total) A (a .0) (a .1) q) C
-    go (refused number side index) q = rw q R
-
-step-right : (k : Kept) (x : Step) → Right k → Right (step k x)
-step-right k (covering s e) R =
-    change-right k (cover (pairs (k .words) (k .count)) s e) R (interval.cover-canonical (pairs (k .words) (k .count)) s e (R .canonical))
-step-right k (uncovering s e) R =
-    change-right k (uncover (pairs (k .words) (k .count)) s e) R (interval.uncover-canonical (pairs (k .words) (k .count)) s e (R .canonical))
-step-right k (growing w) R = stored-longer (k .words) (k .count) (k .total) R w
-step-right k copying R = stored-alone (k .words) (k .count) (k .total) R
-
--- 02 §4.4, §4.6: through any sequence of these, answered or refused, the total that is kept is what counting afresh gives
-pub steps-right : (k : Kept) (xs : List Step) → Right k → Right (steps k xs)
-steps-right k [] R = R
-steps-right k (x ∷ xs) R = steps-right (step k x) xs (step-right k x R)
+  stored-alone = record {
+    within = omega (arith, length-take-le (2 * count) ws stored-room);
+    canonical = rw (pairs-take ws (2 * count) count (omega arith)) (S .canonical);
+    right = ap rowsOf (pairs-take ws (2 * count) count (omega arith)) ∙ S .right;
+  }

@@ -1,4 +1,5 @@
 pub mod Laws
+pub mod Sequences
 pub mod Words
 pub mod Turns
 pub mod Checks
