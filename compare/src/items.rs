@@ -136,6 +136,19 @@ pub fn same(x: Words, y: Words, pool: &[u8]) -> bool {
     x[..2] == y[..2] && keys(x, pool) == keys(y, pool)
 }
 
+/// Kind, wrapper and key bytes of an item.
+pub type Shown = (u32, u32, Vec<u8>, Vec<u8>);
+
+/// What the items of a list show, none for words that are no item.
+pub fn shown(list: &[u32], pool: &[u8]) -> Vec<Option<Shown>> {
+    let show = |words: &[u32]| {
+        let item = six(words)?;
+        let (a, b) = keys(item, pool);
+        Some((item[0], item[1], a.to_vec(), b.to_vec()))
+    };
+    list.chunks(6).map(show).collect()
+}
+
 pub fn part(pool: &[u8], offset: u32, length: u32) -> Option<&[u8]> {
     pool.get(offset as usize..)?.get(..length as usize)
 }

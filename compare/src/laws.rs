@@ -3,7 +3,7 @@
 use crate::{
     fernsponge, hexadecimal,
     inputs::Keys,
-    items::{keys, list_holds, six},
+    items::{keys, list_holds, shown, six},
     many,
     random::Random,
     table::{Against, Row},
@@ -78,16 +78,4 @@ fn holds_some(item: &[u32], pool: &[u8]) -> bool {
     [&[], start, &[start, &[0]].concat()]
         .iter()
         .any(|key| list_holds(item, pool, key))
-}
-
-/// Kind, wrapper and key bytes of an item.
-type Shown = (u32, u32, Vec<u8>, Vec<u8>);
-
-fn shown(list: &[u32], pool: &[u8]) -> Vec<Option<Shown>> {
-    let show = |words: &[u32]| {
-        let item = six(words)?;
-        let (a, b) = keys(item, pool);
-        Some((item[0], item[1], a.to_vec(), b.to_vec()))
-    };
-    list.chunks(6).map(show).collect()
 }

@@ -11,6 +11,7 @@ mod card_calls;
 pub mod cards;
 mod departures;
 pub mod earlier;
+mod either_calls;
 pub mod inputs;
 mod insert_calls;
 mod insert_differences;
@@ -79,6 +80,8 @@ pub struct Size {
     longest: usize,
     /// the keys over which every item is inserted into all lists of three items
     inserted: usize,
+    /// of `few_keys`, those over which every two plain items are inserted into all lists of three items, in either order
+    either: &'static [&'static [usize]],
     /// the most items of all the lists over keys of two bytes that are tried as rate cards
     carded: usize,
     /// the positions over which all queries of two items are tried
@@ -105,6 +108,7 @@ pub const SHORT: Size = Size {
     long_lists: 2,
     longest: 512,
     inserted: 2,
+    either: &[&[0, 1], &[0, 2]],
     carded: 2,
     positions: 6,
     logged: 6,
@@ -124,6 +128,7 @@ pub const LONG: Size = Size {
     long_lists: 6,
     longest: 2_048,
     inserted: 4,
+    either: &[&[0, 1, 2], &[0, 3], &[2, 3]],
     carded: 3,
     positions: 10,
     logged: 8,
@@ -145,6 +150,7 @@ pub fn run(size: &Size) -> Vec<table::Row> {
     rows.extend(laws::run(random, size));
     rows.extend(list_differences::run());
     rows.extend(insert_calls::run(random, size));
+    rows.extend(either_calls::run(size));
     rows.extend(insert_differences::run());
     rows.extend(position_calls::run(random, size));
     rows.extend(interval_calls::run(random, size));

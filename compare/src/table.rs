@@ -250,7 +250,7 @@ and covers and uncovers of stored lists against PostgreSQL's multiranges (`tools
 
 \"As the Rust\" counts calls that answer what the Rust answers. \"As the papers\" counts calls that answer and leave what a small plain reading
 of document 01, and of what is built of 02, in `compare/` says: refusals, the words written and the words not written, which the Rust hasn't; it is no agreement with the
-Rust. A dash: there is nothing of that side to hold the calls against. Listed differences bear their number in docs/DIFFERENCES.md; the rows
+Rust. Rows of laws and of orders hold what some of our calls leave against what others leave; what is held together counts once. A dash: there is nothing of that side to hold the calls against. Listed differences bear their number in docs/DIFFERENCES.md; the rows
 named after one run its inputs, and hold both sides to what stands there. Anything else is a failure. Calls in brackets are counted in another
 row, or are none of ours.
 

@@ -153,6 +153,29 @@ pub fn insert_item(
 
 /// Inserts an item into a list that grows or shrinks with it. A refused list stays as it is.
 ///
+/// Plain items may come in any order: two desks that save the same ones have the same list, item by item, by kind, wrapper and key bytes,
+/// whoever goes first, where neither is refused for having more than 2,048 items on the way. Offsets may differ where equal keys stand at two
+/// places of the pool. Where a wrapped item has the range of another, the later one stands first.
+///
+/// ```
+/// use fernsponge::{insert, Item, Pool, Refusal};
+///
+/// let mut pool = Pool::new();
+/// let nine = Item::key(pool.add(&[9])?);
+/// let ours = Item::range_inclusive(pool.add(&[1])?, pool.add(&[3])?);
+/// let theirs = Item::range(pool.add(&[2])?, pool.add(&[6])?);
+/// let saved = |items: [Item; 2]| -> Result<Vec<String>, Refusal> {
+///     let mut list = vec![nine];
+///     for item in items {
+///         insert(pool.bytes(), &mut list, item)?;
+///     }
+///     Ok(list.iter().map(|item| item.shown(pool.bytes())).collect())
+/// };
+/// assert_eq!(saved([ours, theirs])?, ["Range 01 06", "Key 09"]);
+/// assert_eq!(saved([theirs, ours])?, saved([ours, theirs])?);
+/// # Ok::<(), fernsponge::Refusal>(())
+/// ```
+///
 /// ```
 /// use fernsponge::{insert, Item, Pool};
 ///

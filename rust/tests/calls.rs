@@ -263,6 +263,55 @@ fn insertion_by_hand() {
     assert_eq!(lent[2], Item::from_words([7; 6]));
 }
 
+#[test]
+fn insertions_in_any_order() {
+    let saved = |items: &[Item]| {
+        let mut list = vec![Item::new(Wrapper::Sum, QueryItem::Key(at(2)))];
+        for item in items {
+            insert(&pool(), &mut list, *item).unwrap();
+        }
+        list
+    };
+    // the first two meet by the third alone
+    let items = [
+        Item::range_inclusive(at(1), at(3)),
+        Item::key(at(5)),
+        Item::range_inclusive(at(3), at(5)),
+    ];
+    for [x, y, z] in [
+        [0, 1, 2],
+        [0, 2, 1],
+        [1, 0, 2],
+        [1, 2, 0],
+        [2, 0, 1],
+        [2, 1, 0],
+    ] {
+        let list = saved(&[items[x], items[y], items[z]]);
+        assert_eq!(shown(&list), ["RangeInclusive 01 05", "Key 02"]);
+    }
+    for some in [[items[0], items[1]], [items[1], items[0]]] {
+        let list = saved(&some);
+        assert_eq!(shown(&list), ["RangeInclusive 01 03", "Key 02", "Key 05"]);
+    }
+    // a wrapped item and one of the same range: the later first
+    let [plain, count] =
+        [Wrapper::Plain, Wrapper::Count].map(|w| Item::new(w, QueryItem::Key(at(5))));
+    assert_eq!(saved(&[plain, count])[1..], [count, plain]);
+    assert_eq!(saved(&[count, plain])[1..], [plain, count]);
+}
+
+#[test]
+fn room_in_one_order_only() {
+    let (range, key) = (Item::range_inclusive(at(1), at(3)), Item::key(at(2)));
+    let saved = |one, other| {
+        let mut lent = [Item::key(at(1))];
+        let after = insert_item(&pool(), &mut lent, 1, one)?;
+        insert_item(&pool(), &mut lent, after, other)
+    };
+    assert_eq!(saved(range, key), Ok(1));
+    assert_eq!(saved(key, range).unwrap_err().reason(), Reason::NoRoom);
+}
+
 /// [01,05), then [05,09], then the key 0B, which is wrapped.
 fn lanes() -> [Item; 3] {
     [

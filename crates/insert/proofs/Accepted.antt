@@ -4,7 +4,7 @@ use Prim.Native.Nat.{ℕ, _≤_}
 use mathlib.Core.Path.{_≡_, refl, _∙_}
 use mathlib.Core.Bool.{Bool, true, false, cond}
 use mathlib.Core.Logic.{_⊎_, inl, inr}
-use mathlib.Core.List.{List, [], _∷_}
+use mathlib.Core.List.{List}
 use native.Mathlib.Omega.{arith}
 use native.Mathlib.Nat.{le-refl}
 use borrow.Author.Tests.{le-leb}
@@ -18,20 +18,20 @@ use Rattle.query_item.specs.declared.QueryItem.the-variants.{Key, RangeInclusiv
 use Rattle.query_item.specs.declared.RangeSetItem.{RangeSetItem}
 use Rattle.query_item.specs.declared.RangeSetItem.the-variants.{UnboundedStart, UnboundedEnd, Inclusive, ExclusiveStart, ExclusiveEnd}
 use Rattle.query_item.specs.declared.MaybeItem.the-variants.{Item}
-use Rattle.query_item.specs.Items.{bytesOf, same, queryItem}
+use Rattle.query_item.specs.Items.{bytesOf, same}
 use Rattle.query_item.specs.Boundaries.{compareIn, rangeOf, itemBetween, upright}
-use Rattle.query_item.proofs.Laws.{Starts, Ends, item-sides}
+use Rattle.query_item.proofs.Laws.{Starts, Ends}
 use Rattle.item_check.specs.Checks.{accepted, malformed, outside, uprightFault}
 use Rattle.insert_order.specs.Refusals.{orderedVerdict}
 use Rattle.insert_order.proofs.Ranked.{lo, hi, rk-says}
 use Rattle.insert_order.proofs.Ordered.{Among}
 use Rattle.insert_order.proofs.Accepted.{Within, code-within, Good, good, good-fault, upright-ranks, items-good, good-items, accepted-items}
-use Rattle.insert_merge.specs.declared.Fate.{Fate}
-use Rattle.insert_merge.specs.declared.Fate.the-variants.{Replaced, Stays, Merges}
-use Rattle.insert_merge.specs.Merge.{fateOf, staying, smallerStart, largerEnd, plainItem, merged, mergeBy, mergedWith}
+use Rattle.insert_merge.specs.Merge.{staying, smallerStart, largerEnd, plainItem, merged, mergedWith}
 use Rattle.insert.specs.Insertion.{inserted}
-use Rattle.insert_merge.proofs.Merged.{smaller-start, larger-end, merged-spans}
-use Rattle.insert.proofs.Ordered.{among-staying, among-placed, order-inserted}
+use Rattle.insert_merge.proofs.Merged.{merged-keeps, hull-says, merged-spans}
+use Rattle.insert_merge.proofs.Staying.{among-staying}
+use Rattle.insert.proofs.Placed.{among-placed}
+use Rattle.insert.proofs.Ordered.{order-inserted}
 
 module _ (pool : List ℕ) where
   -- ---- the item between two boundaries
@@ -82,27 +82,17 @@ module _ (pool : List ℕ) where
   merged-good : (cur it : ItemWords) → Good pool cur → Good pool it → Good pool (merged pool cur it)
   unfolding merged
   merged-good cur it g h =
-      let p = item-sides pool (size pool) fits (queryItem cur) in
-      let q = item-sides pool (size pool) fits (queryItem it) in
+      let u = hull-says (size pool) pool fits cur it in
       let v = code-within pool (cur .code) (cur .start) (cur .end) (g .inside) in
       let w = code-within pool (it .code) (it .start) (it .end) (h .inside) in
-      let s = smaller-start (size pool) pool fits (rangeOf cur .start) (rangeOf it .start) (p .0) (q .0) in
-      let e = larger-end (size pool) pool fits (rangeOf cur .end) (rangeOf it .end) (p .1) (q .1) in
       let r =
-      item-sound cur (smallerStart pool (rangeOf cur .start) (rangeOf it .start)) (largerEnd pool (rangeOf cur .end) (rangeOf it .end)) (s .0) (e .0)
+      item-sound cur (smallerStart pool (rangeOf cur .start) (rangeOf it .start)) (largerEnd pool (rangeOf cur .end) (rangeOf it .end)) (u .starts) (u .ends)
       (picked (compareIn pool (rangeOf it .start) (rangeOf cur .start)) (rangeOf it .start) (rangeOf cur .start) (w .0) (v .0))
       (picked (compareIn pool (rangeOf cur .end) (rangeOf it .end)) (rangeOf it .end) (rangeOf cur .end) (w .1) (v .1)) in
       record { formed = r .0; inside = r .1; standing = merged-stands cur it (upright-ranks pool cur (good-fault pool cur g)) }
 
   merged-all : (new cur : ItemWords) (its : List ItemWords) → Good pool cur → ((x : ItemWords) → Among x its → Good pool x) → Good pool (mergedWith pool new cur its)
-  unfolding mergedWith
-  merged-all new cur [] g f = g
-  merged-all new cur (it ∷ its) g f = go (fateOf pool new it) (λ x h. merged-all new x its h (λ y m. f y (inr m)))
-    where
-      go : (t : Fate) → ((x : ItemWords) → Good pool x → Good pool (mergedWith pool new x its)) → Good pool (mergedWith pool new (mergeBy pool t cur it) its)
-      go Replaced r = r cur g
-      go Stays r = r cur g
-      go Merges r = r (merged pool cur it) (merged-good cur it g (f it (inl refl)))
+  merged-all new cur its g f = merged-keeps pool (Good pool) new cur its g (λ c it m e p. merged-good c it p (f it m))
 
   pub list-inserted : (new : ItemWords) (its : List ItemWords) → orderedVerdict pool its ≡ accepted → uprightFault pool new ≡ 0
       → orderedVerdict pool (inserted pool new its) ≡ accepted

@@ -1,23 +1,28 @@
 -- The laws of insertion, each stated once. Assumes nothing.
-use Prim.Native.Nat.{ℕ, suc, _-_, _*_, max}
+use Prim.Native.Nat.{ℕ, suc, _-_, _*_, _≤_, max}
 use mathlib.Core.Path.{_≡_, refl, ap}
 use mathlib.Core.Bool.{Bool, true, false, cond, _||_, _&&_}
 use mathlib.Core.Logic.{inl, inr}
-use mathlib.Core.List.{List, [], _∷_, _++_}
-use native.Mathlib.Omega.{arith}
+use mathlib.Core.List.{List, [], _∷_, _++_, map}
 use lib.ListN.{length, take, drop, replicate}
 use Rattle.key_order.specs.Order.{isLess}
+use Rattle.key_order.proofs.Line.{size}
 use Rattle.query_item.specs.declared.ItemWords.{ItemWords}
-use Rattle.query_item.specs.Items.{itemSize, itemsFrom, holds, queryItem, holdsAny}
+use Rattle.query_item.specs.Items.{itemSize, itemsFrom, shown, holds, queryItem, holdsAny}
 use Rattle.item_check.specs.Checks.{accepted, uprightFault}
 use Rattle.item_check.proofs.Laws.{refused-apart}
-use Rattle.insert_order.specs.Order.{orderItems}
+use Rattle.insert_order.specs.Order.{orderItems, plain}
 use Rattle.insert_order.specs.Refusals.{orderVerdict, orderedVerdict}
+use Rattle.insert_order.proofs.Ranked.{itemRank}
 use Rattle.insert_order.proofs.Ordered.{Among}
+use Rattle.insert_order.proofs.Accepted.{accepted-sorted, upright-ranks}
 use Rattle.insert.specs.declared.Inserted.{Inserted}
 use Rattle.insert.specs.declared.Inserted.the-variants.{Count, Refused}
 use Rattle.insert_merge.specs.declared.Fate.the-variants.{Stays}
 use Rattle.insert_merge.specs.Merge.{fateOf, staying, mergedWith}
+use Rattle.insert_merge.proofs.Merged.{merged-none}
+use Rattle.insert_merge.proofs.Staying.{stays-not, staying-all, staying-pairwise, staying-shown}
+use Rattle.insert_merge.proofs.Converted.{result-shown}
 use Rattle.insert.specs.Insertion.{placed, inserted}
 use Rattle.insert.specs.Answers.{insertedOf, laid}
 use Rattle.insert.specs.Passes.{firstChanged}
@@ -25,6 +30,8 @@ use Rattle.item_lists.proofs.Read.{items-read}
 use Rattle.insert.proofs.Accepted.{list-inserted}
 use Rattle.insert.proofs.Holding.{holds-inserted}
 use Rattle.insert.proofs.Ordered.{order-inserted}
+use Rattle.insert.proofs.Placed.{Divides, placed-between, placed-shown}
+use Rattle.insert.proofs.Either.{either-shown}
 
 -- ---- the answer
 
@@ -57,23 +64,38 @@ pub holds-insert : (pool : List ℕ) (new : ItemWords) (its : List ItemWords) (k
     → holdsAny pool (inserted pool new its) k ≡ holds pool (queryItem new) k || holdsAny pool its k
 holds-insert pool new its k = holds-inserted pool k new its
 
+-- 01 m5.6, 02 §10.2: what stays that is below the result stands before it, in the list's order, and all else behind it; so of items that cover
+-- one range, a plain and a wrapped one or two wrapped ones, the later stands first
+pub insert-between : (pool : List ℕ) (new : ItemWords) (its : List ItemWords) → orderedVerdict pool its ≡ accepted
+    → Divides pool (mergedWith pool new new its) (staying pool new its) (inserted pool new its)
+unfolding inserted
+insert-between pool new its e =
+    placed-between pool (mergedWith pool new new its) (staying pool new its)
+    (staying-pairwise pool (λ x y. itemRank (size pool) pool x ≤ itemRank (size pool) pool y) new its (accepted-sorted pool its e))
+
+-- 02 §10.1: two plain upright items may be inserted in either order: the lists are the same by bytes
+pub insert-either : (pool : List ℕ) (its : List ItemWords) (x y : ItemWords) → orderedVerdict pool its ≡ accepted → uprightFault pool x ≡ 0
+    → uprightFault pool y ≡ 0 → plain x ≡ true → plain y ≡ true
+    → map (shown pool) (inserted pool y (inserted pool x its)) ≡ map (shown pool) (inserted pool x (inserted pool y its))
+insert-either pool its x y e f g p q =
+    either-shown pool its (accepted-sorted pool its e) x y
+    (record { bare = p; stands = upright-ranks pool x f }) (record { bare = q; stands = upright-ranks pool y g })
+
+-- what is inserted goes by what is shown alone: offsets in the pool do not tell
+pub insert-shown : (pool : List ℕ) (x y : ItemWords) (A B : List ItemWords) → shown pool x ≡ shown pool y → map (shown pool) A ≡ map (shown pool) B
+    → map (shown pool) (inserted pool x A) ≡ map (shown pool) (inserted pool y B)
+unfolding inserted
+insert-shown pool x y A B s e =
+    placed-shown pool (mergedWith pool x x A) (mergedWith pool y y B) (staying pool x A) (staying pool y B) (result-shown pool x y x y A B s s e)
+    (staying-shown pool x y A B s e)
+
 -- an item that meets nothing changes no other item: it goes between some and the others
 module _ (pool : List ℕ) (new : ItemWords) where
-  all-stay : (its : List ItemWords) → ((x : ItemWords) → Among x its → fateOf pool new x ≡ Stays) → staying pool new its ≡ its
-  unfolding staying
-  all-stay [] f = refl
-  all-stay (x ∷ xs) f = rw (f x (inl refl), all-stay xs (λ y m. f y (inr m)))
-
-  none-merges : (its : List ItemWords) → ((x : ItemWords) → Among x its → fateOf pool new x ≡ Stays) → mergedWith pool new new its ≡ new
-  unfolding mergedWith
-  none-merges [] f = refl
-  none-merges (x ∷ xs) f = rw (f x (inl refl)) (none-merges xs (λ y m. f y (inr m)))
-
-  placed-between : (its : List ItemWords) → ((x : ItemWords) → Among x its → fateOf pool new x ≡ Stays)
+  apart-between : (its : List ItemWords) → ((x : ItemWords) → Among x its → fateOf pool new x ≡ Stays)
       → placed pool new its ≡ take (firstChanged pool new new its) its ++ (new ∷ drop (firstChanged pool new new its) its)
   unfolding placed firstChanged
-  placed-between [] f = refl
-  placed-between (x ∷ xs) f = rw (f x (inl refl)) (go (isLess (orderItems pool x new)) (placed-between xs (λ y m. f y (inr m))))
+  apart-between [] f = refl
+  apart-between (x ∷ xs) f = rw (f x (inl refl)) (go (isLess (orderItems pool x new)) (apart-between xs (λ y m. f y (inr m))))
     where
       a : ℕ
       a = firstChanged pool new new xs
@@ -87,4 +109,4 @@ module _ (pool : List ℕ) (new : ItemWords) where
   pub insert-apart : (its : List ItemWords) → ((x : ItemWords) → Among x its → fateOf pool new x ≡ Stays)
       → inserted pool new its ≡ take (firstChanged pool new new its) its ++ (new ∷ drop (firstChanged pool new new its) its)
   unfolding inserted
-  insert-apart its f = rw (all-stay its f, none-merges its f) (placed-between its f)
+  insert-apart its f = rw (staying-all pool new its f, merged-none pool new new its (λ x m. stays-not pool new x (f x m))) (apart-between its f)

@@ -1,6 +1,6 @@
 -- The list after insertion is in insertion order. Plain items that stay lie to one side of the new item and of all that merges with it, so
 -- that they lie to that side of the result. Assumes nothing.
-use Prim.Native.Nat.{ℕ, _≤_, _<_}
+use Prim.Native.Nat.{ℕ, _+_, _-_, _≤_, _<_}
 use mathlib.Core.Path.{_≡_, refl, sym, ap, _∙_}
 use mathlib.Core.Bool.{Bool, true, false, cond}
 use mathlib.Core.Logic.{_⊎_, inl, inr, ⊎-elim}
@@ -19,11 +19,12 @@ use Rattle.insert_order.proofs.Ranked.{lo, hi, itemRank, order-less, rank-above
 use Rattle.insert_order.proofs.Seen.{clash-none}
 use Rattle.insert_order.proofs.Ordered.{Among, Ordered, accepted-ordered, ordered-accepted, clash-says, plain-apart}
 use Rattle.insert_order.proofs.Accepted.{accepted-items, accepted-order, items-upright, upright-ranks}
-use Rattle.insert_merge.specs.declared.Fate.{Fate}
-use Rattle.insert_merge.specs.declared.Fate.the-variants.{Replaced, Stays, Merges}
-use Rattle.insert_merge.specs.Merge.{fateOf, keepBy, staying, merged, mergeBy, mergedWith}
+use Rattle.insert_merge.specs.declared.Fate.the-variants.{Stays, Merges}
+use Rattle.insert_merge.specs.Merge.{fateOf, staying, mergedWith}
 use Rattle.insert.specs.Insertion.{placed, inserted}
-use Rattle.insert_merge.proofs.Merged.{fate-is, merged-spans, meets-ranks, ends-ranks, merged-wider, merged-plain}
+use Rattle.insert_merge.proofs.Merged.{fate-is, merged-none, meets-ranks, ends-ranks, merged-wider, merged-low, merged-high, merged-plain}
+use Rattle.insert_merge.proofs.Staying.{among-staying, staying-pairwise}
+use Rattle.insert.proofs.Placed.{among-placed}
 
 module _ (pool : List ℕ) where
   abbrev K : ItemWords → ℕ
@@ -38,76 +39,11 @@ module _ (pool : List ℕ) where
   fits : size pool ≤ size pool
   fits = le-refl (size pool)
 
-  -- ---- what stays, and what is in the list then
-
-  pub among-placed : (result : ItemWords) (xs : List ItemWords) (y : ItemWords) → Among y (placed pool result xs) → (y ≡ result) ⊎ Among y xs
-  unfolding placed
-  among-placed result [] y m = m
-  among-placed result (x ∷ xs) y m = go (isLess (orderItems pool x result)) m (among-placed result xs y)
-    where
-      go : (t : Bool) → Among y (cond t (x ∷ placed pool result xs) (result ∷ x ∷ xs)) → (Among y (placed pool result xs) → (y ≡ result) ⊎ Among y xs)
-          → (y ≡ result) ⊎ ((y ≡ x) ⊎ Among y xs)
-      go true (inl p) r = inr (inl p)
-      go true (inr n) r = ⊎-elim (λ p. inl p) (λ p. inr (inr p)) (r n)
-      go false n r = n
-
   module _ (new : ItemWords) where
-    pub among-staying : (its : List ItemWords) (x : ItemWords) → Among x (staying pool new its) → Among x its × (fateOf pool new x ≡ Stays)
-    unfolding staying
-    among-staying [] x m = absurd m
-    among-staying (y ∷ ys) x m = go (fateOf pool new y) refl m (among-staying ys x)
-      where
-        go : (f : Fate) → fateOf pool new y ≡ f → Among x (keepBy f y (staying pool new ys)) → (Among x (staying pool new ys) → Among x ys × (fateOf pool new x ≡ Stays))
-            → ((x ≡ y) ⊎ Among x ys) × (fateOf pool new x ≡ Stays)
-        go Replaced e n r = let s = r n in (inr (s .0), s .1)
-        go Stays e (inl p) r = (inl p, rw p e)
-        go Stays e (inr n) r = let s = r n in (inr (s .0), s .1)
-        go Merges e n r = let s = r n in (inr (s .0), s .1)
-
-    staying-ordered : (its : List ItemWords) → Ordered pool its → Ordered pool (staying pool new its)
-    unfolding staying
-    staying-ordered [] o = tt
-    staying-ordered (y ∷ ys) o = go (fateOf pool new y) (staying-ordered ys (o .1))
-      where
-        go : (f : Fate) → Ordered pool (staying pool new ys) → Ordered pool (keepBy f y (staying pool new ys))
-        go Replaced r = r
-        go Stays r = (λ x m. o .0 x (among-staying ys x m .0), r)
-        go Merges r = r
-
-    -- ---- the result beside what stays
-
-    merged-above : (b : ℕ) (its : List ItemWords) (cur : ItemWords) → b < S cur → ((p : ItemWords) → Among p its → fateOf pool new p ≡ Merges → b < S p)
-        → b < S (mergedWith pool new cur its)
-    unfolding mergedWith
-    merged-above b [] cur h f = h
-    merged-above b (it ∷ its) cur h f = go (fateOf pool new it) refl (λ c l. merged-above b its c l (λ p m. f p (inr m)))
-      where
-        go : (g : Fate) → fateOf pool new it ≡ g → ((c : ItemWords) → b < S c → b < S (mergedWith pool new c its)) → b < S (mergedWith pool new (mergeBy pool g cur it) its)
-        go Replaced e r = r cur h
-        go Stays e r = r cur h
-        go Merges e r = r (merged pool cur it) (omega (arith, merged-spans (size pool) pool fits cur it .0, f it (inl refl) e))
-
-    merged-under : (b : ℕ) (its : List ItemWords) (cur : ItemWords) → E cur < b → ((p : ItemWords) → Among p its → fateOf pool new p ≡ Merges → E p < b)
-        → E (mergedWith pool new cur its) < b
-    unfolding mergedWith
-    merged-under b [] cur h f = h
-    merged-under b (it ∷ its) cur h f = go (fateOf pool new it) refl (λ c l. merged-under b its c l (λ p m. f p (inr m)))
-      where
-        go : (g : Fate) → fateOf pool new it ≡ g → ((c : ItemWords) → E c < b → E (mergedWith pool new c its) < b) → E (mergedWith pool new (mergeBy pool g cur it) its) < b
-        go Replaced e r = r cur h
-        go Stays e r = r cur h
-        go Merges e r = r (merged pool cur it) (omega (arith, merged-spans (size pool) pool fits cur it .1, f it (inl refl) e))
-
     -- nothing merges with a wrapped item
     merged-wrapped : (its : List ItemWords) (cur : ItemWords) → plain new ≡ false → mergedWith pool new cur its ≡ cur
-    unfolding mergedWith
-    merged-wrapped [] cur w = refl
-    merged-wrapped (it ∷ its) cur w = go (fateOf pool new it) refl (merged-wrapped its cur w)
-      where
-        go : (g : Fate) → fateOf pool new it ≡ g → mergedWith pool new cur its ≡ cur → mergedWith pool new (mergeBy pool g cur it) its ≡ cur
-        go Replaced e r = r
-        go Stays e r = r
-        go Merges e r = let m = fate-is pool new it e in absurd (let z : _≡_ {A = ℕ} 0 1 = cc (m .new-plain) in omega arith)
+    merged-wrapped its cur w =
+        merged-none pool new cur its (λ p m e. let f = fate-is pool new p e in let z : _≡_ {A = ℕ} 0 1 = cc (f .new-plain) in omega arith)
 
     module _ (its : List ItemWords) (o : Ordered pool its) (up : (x : ItemWords) → Among x its → S x ≤ E x) (up-new : S new ≤ E new) where
       abbrev M : ItemWords
@@ -149,10 +85,10 @@ module _ (pool : List ℕ) where
           go : (endsBelow pool new x ≡ true) ⊎ (endsBelow pool x new ≡ true) → (E x < S M) ⊎ (E M < S x)
           go (inl h) =
               let l = ends-ranks (size pool) pool fits new x h in
-              inr (merged-under (S x) its new l (right l))
+              inr (omega (arith, merged-high (size pool) pool fits (S x - 1) new new its (omega arith) (λ p n f. omega (arith, right l p n f))))
           go (inr h) =
               let l = ends-ranks (size pool) pool fits x new h in
-              inl (merged-above (E x) its new l (left l))
+              inl (omega (arith, merged-low (size pool) pool fits (E x + 1) new new its (omega arith) (λ p n f. omega (arith, left l p n f))))
 
       -- where the result is plain, so is the new item
       plain-new : plain M ≡ true → plain new ≡ true
@@ -217,7 +153,7 @@ module _ (pool : List ℕ) where
           here = f x (inl refl)
 
           go : (t : Bool) → isLess (orderItems pool x M) ≡ t → Ordered pool (placed pool M xs) → Ordered pool (cond t (x ∷ placed pool M xs) (M ∷ x ∷ xs))
-          go true e r = (λ y m. later y (among-placed M xs y m), r)
+          go true e r = (λ y m. later y (among-placed pool M xs y m), r)
             where
               later : (y : ItemWords) → (y ≡ M) ⊎ Among y xs → clash pool x y ≡ false
               later y (inl p) = rw p (below x (here .0) (here .1) e)
@@ -234,7 +170,7 @@ module _ (pool : List ℕ) where
 
       inserted-ordered : Ordered pool (inserted pool new its)
       unfolding inserted
-      inserted-ordered = placed-ordered (staying pool new its) (staying-ordered its o) (λ x m. among-staying its x m)
+      inserted-ordered = placed-ordered (staying pool new its) (staying-pairwise pool (λ x y. clash pool x y ≡ false) new its o) (λ x m. among-staying pool new its x m)
 
   pub order-inserted : (new : ItemWords) (its : List ItemWords) → orderedVerdict pool its ≡ accepted → uprightFault pool new ≡ 0
       → orderVerdict pool (inserted pool new its) ≡ accepted

@@ -2,7 +2,7 @@
 -- and all that start above its end. What the list comes to is what the others come to. Assumes nothing.
 use Prim.Native.Nat.{ℕ, zero, suc, _+_, _-_, _≤_, _<_}
 use mathlib.Core.Path.{_≡_, refl, sym, ap, _∙_}
-use mathlib.Core.Bool.{Bool, true, false, cond, _&&_}
+use mathlib.Core.Bool.{true, false}
 use mathlib.Core.Logic.{_⊎_, inl, inr}
 use mathlib.Core.List.{List, [], _∷_, _++_}
 use native.Mathlib.Omega.{arith}
@@ -15,15 +15,16 @@ use Rattle.key_order.proofs.Line.{size}
 use Rattle.query_item.specs.declared.ItemWords.{ItemWords}
 use Rattle.query_item.specs.Items.{itemAt, itemsFrom}
 use Rattle.item_check.specs.Checks.{accepted}
-use Rattle.insert_order.specs.Order.{orderItems, plain, sameItem, endsBelow}
+use Rattle.insert_order.specs.Order.{orderItems, plain, endsBelow}
 use Rattle.insert_order.specs.Refusals.{inputVerdict}
-use Rattle.insert_order.proofs.Ranked.{lo, hi, itemRank, order-less, ends-less, rank-start, same-rank, same-item-rank}
-use Rattle.insert_order.proofs.Ordered.{Ordered, accepted-ordered, clash-says, among-at, ordered-at}
-use Rattle.insert_order.proofs.Accepted.{accepted-items, accepted-order, items-upright, upright-ranks, input-list, input-new}
+use Rattle.insert_order.proofs.Ranked.{lo, hi, itemRank, order-less, rank-start, same-rank, same-item-rank}
+use Rattle.insert_order.proofs.Ordered.{Among, accepted-ordered, clash-says, ordered-at}
+use Rattle.insert_order.proofs.Accepted.{accepted-order, upright-ranks, input-list, input-new}
 use Rattle.insert_merge.specs.declared.Fate.{Fate}
 use Rattle.insert_merge.specs.declared.Fate.the-variants.{Replaced, Stays, Merges}
 use Rattle.insert_merge.specs.Merge.{fateOf, keepBy, staying, mergeBy, mergedWith, isStaying}
-use Rattle.insert_merge.proofs.Merged.{apart-stays, ends-ranks}
+use Rattle.insert_merge.proofs.Merged.{merged-none, ends-ranks, ranks-stay}
+use Rattle.insert_merge.proofs.Staying.{stays-not, staying-all}
 use Rattle.insert.specs.Passes.{Ascending, Below, Stay, Asked, keepsPlace, firstChanged, staysAt}
 use Rattle.insert.proofs.Written.{length-items}
 
@@ -51,19 +52,6 @@ module _ (pool : List ℕ) where
 
   ranks-other : (x y : ItemWords) → K y ≤ K x → isLess (orderItems pool x y) ≡ false
   ranks-other x y h = order-less (size pool) pool fits x y ∙ le-ltb (K x) (K y) h
-
-  -- an item stays that is not equal to the new one and, where both are plain, lies apart from it
-  stays : (new it : ItemWords) → (sameItem pool new it ≡ true → ⊥) → (plain new ≡ true → plain it ≡ true → (E new < S it) ⊎ (E it < S new))
-      → fateOf pool new it ≡ Stays
-  stays new it f g = apart-stays pool new it (record { other = other (sameItem pool new it) refl; disjoint = λ p q. side (g p q) })
-    where
-      other : (b : Bool) → sameItem pool new it ≡ b → b ≡ false
-      other true e = absurd (f e)
-      other false e = refl
-
-      side : (E new < S it) ⊎ (E it < S new) → (endsBelow pool new it ≡ true) ⊎ (endsBelow pool it new ≡ true)
-      side (inl h) = inl (ends-less (size pool) pool fits new it ∙ lt-ltb (E new) (S it) h)
-      side (inr h) = inr (ends-less (size pool) pool fits it new ∙ lt-ltb (E it) (S new) h)
 
 -- ---- what is below an item
 
@@ -145,7 +133,7 @@ module _ (pool ws : List ℕ) (count : ℕ) (new : ItemWords) (ok : inputVerdict
 
   -- those that start above the end of the new item
   pub stay-back : (i : ℕ) {x : ItemWords} → x ≡ itemAt ws i → endsBelow pool new x ≡ true → Stay pool ws new i count
-  stay-back i p e j h l = stays pool new (itemAt ws j) (λ s. omega (arith, same-rank (size pool) pool new (itemAt ws j) s .0, far, new-upright)) (λ a b. inl far)
+  stay-back i p e j h l = ranks-stay (size pool) pool (fits pool) new (itemAt ws j) (λ s. omega (arith, same-rank (size pool) pool new (itemAt ws j) s .0, far, new-upright)) (λ a b. inl far)
     where
       far : E pool new < S pool (itemAt ws j)
       far = elim (decLt i j) [
@@ -160,7 +148,7 @@ module _ (pool ws : List ℕ) (count : ℕ) (new : ItemWords) (ok : inputVerdict
     -- one below the new item is not equal to it
     below-stays : (j : ℕ) → j < place → (plain new ≡ true → plain (itemAt ws j) ≡ true → E pool (itemAt ws j) < S pool new) → fateOf pool new (itemAt ws j) ≡ Stays
     below-stays j h f =
-        stays pool new (itemAt ws j) (λ s. omega (arith, same-item-rank (size pool) pool new (itemAt ws j) s, low j h)) (λ a b. inr (f a b))
+        ranks-stay (size pool) pool (fits pool) new (itemAt ws j) (λ s. omega (arith, same-item-rank (size pool) pool new (itemAt ws j) s, low j h)) (λ a b. inr (f a b))
 
     pub stay-wrapped : plain new ≡ false → Stay pool ws new 0 place
     stay-wrapped e j h l = below-stays j l (λ a b. absurd (let z : _≡_ {A = ℕ} 0 1 = cc in omega arith))
@@ -215,15 +203,20 @@ module _ (pool : List ℕ) (new : ItemWords) where
   merged-append cur (x ∷ xs) ys = merged-append (mergeBy pool (fateOf pool new x) cur x) xs ys
 
   module _ (ws : List ℕ) where
-    staying-all : (i n : ℕ) → Stay pool ws new i (i + n) → staying pool new (itemsFrom ws i n) ≡ itemsFrom ws i n
-    unfolding staying itemsFrom
-    staying-all i zero f = refl
-    staying-all i (suc n) f = rw (f i (omega arith) (omega arith), staying-all (suc i) n (λ j h l. f j (omega arith) (omega arith)))
+    stay-among : (i n : ℕ) → Stay pool ws new i (i + n) → (x : ItemWords) → Among x (itemsFrom ws i n) → fateOf pool new x ≡ Stays
+    unfolding itemsFrom
+    stay-among i zero f x m = absurd m
+    stay-among i (suc n) f x m = go m (stay-among (suc i) n (λ j h l. f j (omega arith) (omega arith)) x)
+      where
+        go : (x ≡ itemAt ws i) ⊎ Among x (itemsFrom ws (suc i) n) → (Among x (itemsFrom ws (suc i) n) → fateOf pool new x ≡ Stays) → fateOf pool new x ≡ Stays
+        go (inl s) r = rw s (f i (omega arith) (omega arith))
+        go (inr k) r = r k
 
-    merged-none : (cur : ItemWords) (i n : ℕ) → Stay pool ws new i (i + n) → mergedWith pool new cur (itemsFrom ws i n) ≡ cur
-    unfolding mergedWith itemsFrom
-    merged-none cur i zero f = refl
-    merged-none cur i (suc n) f = rw (mergedWith, f i (omega arith) (omega arith)) (merged-none cur (suc i) n (λ j h l. f j (omega arith) (omega arith)))
+    stay-whole : (i n : ℕ) → Stay pool ws new i (i + n) → staying pool new (itemsFrom ws i n) ≡ itemsFrom ws i n
+    stay-whole i n f = staying-all pool new (itemsFrom ws i n) (stay-among i n f)
+
+    stay-alone : (cur : ItemWords) (i n : ℕ) → Stay pool ws new i (i + n) → mergedWith pool new cur (itemsFrom ws i n) ≡ cur
+    stay-alone cur i n f = merged-none pool new cur (itemsFrom ws i n) (λ x m. stays-not pool new x (stay-among i n f x m))
 
     module _ (count from to : ℕ) (v : Asked pool ws count new from to) where
       parts : itemsFrom ws 0 count ≡ itemsFrom ws 0 from ++ (itemsFrom ws from (to - from) ++ itemsFrom ws to (count - to))
@@ -248,9 +241,9 @@ module _ (pool : List ℕ) (new : ItemWords) where
           sym
           (ap (mergedWith pool new new) parts
           ∙ merged-append new (itemsFrom ws 0 from) (mid ++ end)
-          ∙ ap (λ (it : ItemWords). mergedWith pool new it (mid ++ end)) (merged-none new 0 from front)
+          ∙ ap (λ (it : ItemWords). mergedWith pool new it (mid ++ end)) (stay-alone new 0 from front)
           ∙ merged-append new mid end
-          ∙ merged-none (mergedWith pool new new mid) to (count - to) back
+          ∙ stay-alone (mergedWith pool new new mid) to (count - to) back
           ∙ sym p)
 
       pub asked-stay : {stay : ℕ} → stay ≡ length (staying pool new (itemsFrom ws from (to - from)))
@@ -263,8 +256,8 @@ module _ (pool : List ℕ) (new : ItemWords) where
           ∙ rw (
             staying-append (itemsFrom ws 0 from) (mid ++ end),
             staying-append mid end,
-            staying-all 0 from front,
-            staying-all to (count - to) back,
+            stay-whole 0 from front,
+            stay-whole to (count - to) back,
             length-append,
             length-append,
             length-items ws 0 from,

@@ -1,3 +1,4 @@
 pub mod Insertion
 pub mod Answers
+pub mod Sequence
 pub mod Passes

@@ -1,6 +1,7 @@
 // Module 5 of document 01: what becomes of a list's items where one is inserted, and what the new item comes to. The crate `insert` has the
 // call.
-// Definitions: specs/Merge.antt. Laws: proofs/Merged.antt.
+// Definitions: specs/Merge.antt. Laws: proofs/Merged.antt (fates, and how far a result reaches), proofs/Staying.antt (what stays), proofs/Reach.antt
+// (what is taken out lies within the result), proofs/Converted.antt (what a result shows).
 //
 // A function marked "inner" is public only because another crate needs it. It checks nothing: its definition covers every input.
 ghost use mathlib.Core.Path.{_≡_};

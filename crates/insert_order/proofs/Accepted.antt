@@ -23,10 +23,11 @@ use Rattle.query_item.specs.declared.RangeSetItem.{RangeSetItem}
 use Rattle.query_item.specs.declared.RangeSetItem.the-variants.{UnboundedStart, UnboundedEnd, Inclusive, ExclusiveStart, ExclusiveEnd}
 use Rattle.query_item.specs.Items.{itemSize, itemAt, itemsFrom, itemOf}
 use Rattle.query_item.specs.Boundaries.{compareIn, toRangeSet, rangeOf, upright}
-use Rattle.item_check.specs.Checks.{Verdict, answered, refused, accepted, andThen, hasStart, hasEnd, keyOut, malformed, outside, uprightFault, mostItems, poolVerdict, faultAt, firstBad}
+use Rattle.item_check.specs.Checks.{refused, accepted, andThen, hasStart, hasEnd, keyOut, malformed, outside, uprightFault, mostItems, poolVerdict, faultAt, firstBad}
+use Rattle.item_check.proofs.Laws.{accepts, sound-parts, fault-passes}
 use Rattle.insert_order.specs.Refusals.{bufferVerdict, orderVerdict, orderedVerdict, inputVerdict}
 use Rattle.insert_order.proofs.Ranked.{lo, hi, rk-says}
-use Rattle.insert_order.proofs.Ordered.{Among, among-at}
+use Rattle.insert_order.proofs.Ordered.{Among, accepted-ordered, Sorted, ordered-sorted, among-at}
 
 module _ (pool : List ℕ) where
   -- a boundary's key is in the pool
@@ -86,14 +87,7 @@ module _ (pool : List ℕ) where
     pub standing : upright pool (rangeOf it) ≡ true
 
   pub good : (it : ItemWords) → uprightFault pool it ≡ 0 → Good it
-  good it e = go (malformed it) refl (outside pool it) refl (upright pool (rangeOf it)) refl e
-    where
-      go : (a : Bool) → malformed it ≡ a → (b : Bool) → outside pool it ≡ b → (c : Bool) → upright pool (rangeOf it) ≡ c
-          → _≡_ {A = ℕ} (cond a 1 (cond b 2 (cond c 0 3))) 0 → Good it
-      go true p b q c r f = absurd (omega arith)
-      go false p true q c r f = absurd (omega arith)
-      go false p false q true r f = record { formed = p; inside = q; standing = r }
-      go false p false q false r f = absurd (omega arith)
+  good it e = let p = sound-parts pool it e in record { formed = p .0; inside = p .1; standing = p .2 }
 
   pub good-fault : (it : ItemWords) → Good it → uprightFault pool it ≡ 0
   good-fault it g = rw (g .formed, g .inside, g .standing)
@@ -134,43 +128,33 @@ module _ (pool : List ℕ) where
       → lo (size pool) pool (itemAt ws j) ≤ hi (size pool) pool (itemAt ws j)
   upright-at ws count e j h = items-upright 0 (itemsFrom ws 0 count) e (itemAt ws j) (among-at pool ws 0 count j (omega arith) (omega arith))
 
-  accepted-parts : (its : List ItemWords) (v : Verdict) → firstBad pool 0 0 its ≡ v → andThen v (orderVerdict pool its) ≡ accepted
-      → (firstBad pool 0 0 its ≡ accepted) × (orderVerdict pool its ≡ accepted)
-  accepted-parts its (answered tt) p q = (p, q)
-  accepted-parts its (refused a b c) p q = absurd (let z : _≡_ {A = ℕ} 0 1 = cc in omega arith)
-
   pub accepted-items : (its : List ItemWords) → orderedVerdict pool its ≡ accepted → firstBad pool 0 0 its ≡ accepted
-  accepted-items its e = accepted-parts its (firstBad pool 0 0 its) refl e .0
+  accepted-items its e = accepts (firstBad pool 0 0 its) (orderVerdict pool its) .0 e .0
 
   pub accepted-order : (its : List ItemWords) → orderedVerdict pool its ≡ accepted → orderVerdict pool its ≡ accepted
-  accepted-order its e = accepted-parts its (firstBad pool 0 0 its) refl e .1
+  accepted-order its e = accepts (firstBad pool 0 0 its) (orderVerdict pool its) .0 e .1
+
+  pub accepted-sorted : (its : List ItemWords) → orderedVerdict pool its ≡ accepted → Sorted pool its
+  accepted-sorted its e = ordered-sorted pool its (accepted-ordered pool 0 [] its (accepted-order its e) .1)
 
 -- ---- the input
 
-and-then : (v w : Verdict) → andThen v w ≡ accepted → (v ≡ accepted) × (w ≡ accepted)
-and-then (answered tt) w e = (refl, e)
-and-then (refused n s i) w e = absurd (let z : _≡_ {A = ℕ} 0 1 = cc in omega arith)
-
 module _ (pool ws : List ℕ) (count : ℕ) (new : ItemWords) (e : inputVerdict pool ws count new ≡ accepted) where
   past-pool : andThen (bufferVerdict ws count) (andThen (orderedVerdict pool (itemsFrom ws 0 count)) (faultAt (uprightFault pool new) 1 0)) ≡ accepted
-  past-pool = and-then (poolVerdict pool) _ e .1
+  past-pool = accepts (poolVerdict pool) _ .0 e .1
 
   past-buffer : andThen (orderedVerdict pool (itemsFrom ws 0 count)) (faultAt (uprightFault pool new) 1 0) ≡ accepted
-  past-buffer = and-then (bufferVerdict ws count) _ past-pool .1
+  past-buffer = accepts (bufferVerdict ws count) _ .0 past-pool .1
 
   pub input-count : count ≤ length ws / itemSize
-  input-count = go (ltb (length ws / itemSize) count) (ltb mostItems count) refl (and-then (bufferVerdict ws count) _ past-pool .0)
+  input-count = go (ltb (length ws / itemSize) count) (ltb mostItems count) refl (accepts (bufferVerdict ws count) _ .0 past-pool .0)
     where
       go : (t u : Bool) → ltb (length ws / itemSize) count ≡ t → cond (t || u) (refused 1 0 0) accepted ≡ accepted → count ≤ length ws / itemSize
       go true u p f = absurd (let z : _≡_ {A = ℕ} 0 1 = cc in omega arith)
       go false u p f = ltb-false (length ws / itemSize) count p
 
   pub input-list : orderedVerdict pool (itemsFrom ws 0 count) ≡ accepted
-  input-list = and-then (orderedVerdict pool (itemsFrom ws 0 count)) _ past-buffer .0
+  input-list = accepts (orderedVerdict pool (itemsFrom ws 0 count)) _ .0 past-buffer .0
 
   pub input-new : uprightFault pool new ≡ 0
-  input-new = go (uprightFault pool new) (and-then (orderedVerdict pool (itemsFrom ws 0 count)) _ past-buffer .1)
-    where
-      go : (f : ℕ) → faultAt f 1 0 ≡ accepted → f ≡ 0
-      go zero p = refl
-      go (suc f) p = absurd (let z : _≡_ {A = ℕ} 0 1 = cc in omega arith)
+  input-new = fault-passes (uprightFault pool new) 1 0 .0 (accepts (orderedVerdict pool (itemsFrom ws 0 count)) _ .0 past-buffer .1)

@@ -24,11 +24,15 @@ abbrev pub Among : ItemWords → List ItemWords → Type 0
 Among x [] = ⊥
 Among x (y ∷ ys) = (x ≡ y) ⊎ Among x ys
 
+-- each item of a list stands so to every later one
+abbrev pub Pairwise : (ItemWords → ItemWords → Type 0) → List ItemWords → Type 0
+Pairwise R [] = Unit {0}
+Pairwise R (x ∷ xs) = ((y : ItemWords) → Among y xs → R x y) × Pairwise R xs
+
 module _ (pool : List ℕ) where
   -- no item clashes with a later one
   abbrev pub Ordered : List ItemWords → Type 0
-  Ordered [] = Unit {0}
-  Ordered (x ∷ xs) = ((y : ItemWords) → Among y xs → clash pool x y ≡ false) × Ordered xs
+  Ordered its = Pairwise (λ x y. clash pool x y ≡ false) its
 
   clashes-none : (es : List ItemWords) (it : ItemWords) → clashes pool es it ≡ false → (e : ItemWords) → Among e es → clash pool e it ≡ false
   unfolding clashes
@@ -105,6 +109,14 @@ module _ (pool : List ℕ) where
       go true true false p q r = absurd (let z : _≡_ {A = ℕ} 0 1 = cc in omega arith)
       go true false c p q r = absurd (let z : _≡_ {A = ℕ} 0 1 = cc in omega arith)
       go false b c p q r = absurd (let z : _≡_ {A = ℕ} 0 1 = cc in omega arith)
+
+  -- none ranks above a later one
+  abbrev pub Sorted : List ItemWords → Type 0
+  Sorted its = Pairwise (λ x y. K x ≤ K y) its
+
+  pub ordered-sorted : (its : List ItemWords) → Ordered its → Sorted its
+  ordered-sorted [] o = tt
+  ordered-sorted (x ∷ xs) o = (λ y m. clash-says x y (o .0 y m) .0, ordered-sorted xs (o .1))
 
   -- two plain items of a list in order are one, or lie apart
   pub plain-apart : (its : List ItemWords) → Ordered its → (x p : ItemWords) → Among x its → Among p its → plain x ≡ true → plain p ≡ true

@@ -1,64 +1,29 @@
 -- Items on the line of ranks: each has the rank of its start, the rank of its end, and one rank of its own by which the order of items is
 -- that of numbers. Ranks are taken at an n that is no less than the pool's size, so that every key of the pool fits. Assumes nothing.
 use Prim.Native.Nat.{ℕ, _+_, _*_, _≤_, _<_}
-use mathlib.Core.Path.{_≡_, refl, ap}
-use mathlib.Core.Bool.{Bool, true, false, cond, _&&_}
+use mathlib.Core.Path.{_≡_, refl, sym, ap, _∙_}
+use mathlib.Core.Bool.{Bool, true, false, _&&_}
 use mathlib.Core.List.{List}
 use native.Mathlib.Omega.{arith}
 use native.Mathlib.Decide.{decLt}
 use native.Mathlib.Nat.{mul-le-mul-right}
 use lib.Dec.{eqb, ltb}
-use borrow.Author.Tests.{eqb-true}
+use borrow.Author.Tests.{eqb-true, eq-eqb}
 use Rattle.key_order.specs.declared.Ordering.{Ordering}
 use Rattle.key_order.specs.declared.Ordering.the-variants.{Less, Equal, Greater}
-use Rattle.key_order.specs.Order.{thenBy, compareKeys, isLess, isEqual}
+use Rattle.key_order.specs.Order.{thenBy, isLess}
 use Rattle.key_order.proofs.Numbers.{Says, says-less}
-use Rattle.key_order.proofs.Laws.{compare-equal}
+use Rattle.key_order.proofs.Laws.{compare-same}
 use Rattle.key_order.proofs.Line.{size, past}
 use Rattle.key_order.proofs.Ranks.{extent, rank, rank-bound, rank-says}
-use Rattle.query_item.specs.declared.KeyAt.{KeyAt}
 use Rattle.query_item.specs.declared.ItemWords.{ItemWords}
-use Rattle.query_item.specs.declared.QueryItem.{QueryItem}
-use Rattle.query_item.specs.declared.QueryItem.the-variants.{Key, Range, RangeInclusive, RangeFull, RangeFrom, RangeTo, RangeToInclusive, RangeAfter, RangeAfterTo, RangeAfterToInclusive}
 use Rattle.query_item.specs.declared.RangeSetItem.{RangeSetItem}
-use Rattle.query_item.specs.Items.{bytesOf, same, itemOf}
-use Rattle.query_item.specs.Boundaries.{boundaryOf, compareIn, toRangeSet, rangeOf}
-use Rattle.query_item.proofs.Laws.{boundary-fits}
+use Rattle.query_item.specs.Items.{bytesOf, Shown, shown}
+use Rattle.query_item.specs.Boundaries.{boundaryOf, compareIn, rangeOf}
+use Rattle.query_item.proofs.Laws.{shown-range, boundary-fits}
 use Rattle.insert_order.specs.Order.{orderItems, sameItem, endsBelow}
 
--- ---- items that are equal in code and key bytes have equal boundaries
-
-alike : (pool : List ℕ) (c : ℕ) (a b d e : KeyAt) → bytesOf pool a ≡ bytesOf pool d → bytesOf pool b ≡ bytesOf pool e
-    → (boundaryOf pool (toRangeSet (itemOf c a b) .start) ≡ boundaryOf pool (toRangeSet (itemOf c d e) .start))
-    × (boundaryOf pool (toRangeSet (itemOf c a b) .end) ≡ boundaryOf pool (toRangeSet (itemOf c d e) .end))
-alike pool c a b d e p q = go (eqb c 0) (eqb c 1) (eqb c 2) (eqb c 4) (eqb c 5) (eqb c 6) (eqb c 7) (eqb c 8) (eqb c 9)
-  where
-    pick : Bool → Bool → Bool → Bool → Bool → Bool → Bool → Bool → Bool → KeyAt → KeyAt → QueryItem
-    pick t0 t1 t2 t4 t5 t6 t7 t8 t9 x y =
-        cond t0 (Key x)
-        (cond t1 (Range x y)
-        (cond t2 (RangeInclusive x y)
-        (cond t4 (RangeFrom x)
-        (cond t5 (RangeTo y)
-        (cond t6 (RangeToInclusive y)
-        (cond t7 (RangeAfter x)
-        (cond t8 (RangeAfterTo x y)
-        (cond t9 (RangeAfterToInclusive x y)
-        RangeFull))))))))
-
-    go : (t0 t1 t2 t4 t5 t6 t7 t8 t9 : Bool)
-        → (boundaryOf pool (toRangeSet (pick t0 t1 t2 t4 t5 t6 t7 t8 t9 a b) .start) ≡ boundaryOf pool (toRangeSet (pick t0 t1 t2 t4 t5 t6 t7 t8 t9 d e) .start))
-        × (boundaryOf pool (toRangeSet (pick t0 t1 t2 t4 t5 t6 t7 t8 t9 a b) .end) ≡ boundaryOf pool (toRangeSet (pick t0 t1 t2 t4 t5 t6 t7 t8 t9 d e) .end))
-    go true t1 t2 t4 t5 t6 t7 t8 t9 = (cc, cc)
-    go false true t2 t4 t5 t6 t7 t8 t9 = (cc, cc)
-    go false false true t4 t5 t6 t7 t8 t9 = (cc, cc)
-    go false false false true t5 t6 t7 t8 t9 = (cc, refl)
-    go false false false false true t6 t7 t8 t9 = (refl, cc)
-    go false false false false false true t7 t8 t9 = (refl, cc)
-    go false false false false false false true t8 t9 = (cc, refl)
-    go false false false false false false false true t9 = (cc, cc)
-    go false false false false false false false false true = (cc, cc)
-    go false false false false false false false false false = (refl, refl)
+-- ---- equal items show the same, and those that show the same are equal
 
 and-four : (a b c d : Bool) → a && b && c && d ≡ true → (a ≡ true) × (b ≡ true) × (c ≡ true) × (d ≡ true)
 and-four true true true true e = (refl, refl, refl, refl)
@@ -67,31 +32,67 @@ and-four true true false d e = absurd (let z : _≡_ {A = ℕ} 0 1 = cc in omega
 and-four true false c d e = absurd (let z : _≡_ {A = ℕ} 0 1 = cc in omega arith)
 and-four false b c d e = absurd (let z : _≡_ {A = ℕ} 0 1 = cc in omega arith)
 
-pub same-bytes : (x y : List ℕ) → same x y ≡ true → x ≡ y
-same-bytes x y e = compare-equal x y .0 (go (compareKeys x y) e)
-  where
-    go : (o : Ordering) → isEqual o ≡ true → o ≡ Equal
-    go Less f = absurd (let z : _≡_ {A = ℕ} 0 1 = cc in omega arith)
-    go Equal f = refl
-    go Greater f = absurd (let z : _≡_ {A = ℕ} 0 1 = cc in omega arith)
-
-same-parts : (pool : List ℕ) (x y : ItemWords) → sameItem pool x y ≡ true
-    → (eqb (x .code) (y .code) ≡ true)
-    × (eqb (x .wrapper) (y .wrapper) ≡ true)
-    × (same (bytesOf pool (x .start)) (bytesOf pool (y .start)) ≡ true)
-    × (same (bytesOf pool (x .end)) (bytesOf pool (y .end)) ≡ true)
+pub same-shown : (pool : List ℕ) (x y : ItemWords) → sameItem pool x y ≡ true → shown pool x ≡ shown pool y
 unfolding sameItem
-same-parts pool x y e = and-four (eqb (x .code) (y .code)) (eqb (x .wrapper) (y .wrapper)) _ _ e
+same-shown pool x y e =
+    let p = and-four (eqb (x .code) (y .code)) (eqb (x .wrapper) (y .wrapper)) _ _ e in
+    let codes = eqb-true (x .code) (y .code) (p .0) in
+    let wrappers = eqb-true (x .wrapper) (y .wrapper) (p .1) in
+    let starts = compare-same (bytesOf pool (x .start)) (bytesOf pool (y .start)) .0 (p .2) in
+    let ends = compare-same (bytesOf pool (x .end)) (bytesOf pool (y .end)) .0 (p .3) in
+    cc
+
+pub shown-same : (pool : List ℕ) (x y : ItemWords) → shown pool x ≡ shown pool y → sameItem pool x y ≡ true
+unfolding sameItem
+shown-same pool x y e = rw (
+  eq-eqb (x .code) (y .code) (ap (λ (s : Shown). s .0) e),
+  eq-eqb (x .wrapper) (y .wrapper) (ap (λ (s : Shown). s .1) e),
+  compare-same (bytesOf pool (x .start)) (bytesOf pool (y .start)) .1 (ap (λ (s : Shown). s .2) e),
+  compare-same (bytesOf pool (x .end)) (bytesOf pool (y .end)) .1 (ap (λ (s : Shown). s .3) e),
+)
+
+pub same-sym : (pool : List ℕ) (x y : ItemWords) → sameItem pool x y ≡ true → sameItem pool y x ≡ true
+same-sym pool x y e = shown-same pool y x (sym (same-shown pool x y e))
+
+pub same-comm : (pool : List ℕ) (x y : ItemWords) → sameItem pool x y ≡ sameItem pool y x
+same-comm pool x y = go (sameItem pool x y) refl (sameItem pool y x) refl
+  where
+    go : (s : Bool) → sameItem pool x y ≡ s → (t : Bool) → sameItem pool y x ≡ t → s ≡ t
+    go true p true q = refl
+    go true p false q = sym (same-sym pool x y p) ∙ q
+    go false p true q = sym p ∙ same-sym pool y x q
+    go false p false q = refl
 
 pub same-wrapper : (pool : List ℕ) (x y : ItemWords) → sameItem pool x y ≡ true → x .wrapper ≡ y .wrapper
-same-wrapper pool x y e = eqb-true (x .wrapper) (y .wrapper) (same-parts pool x y e .1)
+same-wrapper pool x y e = ap (λ (s : Shown). s .1) (same-shown pool x y e)
 
 pub same-range : (pool : List ℕ) (x y : ItemWords) → sameItem pool x y ≡ true
     → (boundaryOf pool (rangeOf x .start) ≡ boundaryOf pool (rangeOf y .start)) × (boundaryOf pool (rangeOf x .end) ≡ boundaryOf pool (rangeOf y .end))
-same-range pool x y e =
-    let p = same-parts pool x y e in
-    rw (eqb-true (x .code) (y .code) (p .0))
-    (alike pool (y .code) (x .start) (x .end) (y .start) (y .end) (same-bytes _ _ (p .2)) (same-bytes _ _ (p .3)))
+same-range pool x y e = shown-range pool pool x y (same-shown pool x y e)
+
+-- ---- the order goes by what items show, of one pool or of two
+
+module _ (P Q : List ℕ) (x y a b : ItemWords) (e : shown P x ≡ shown Q y) (f : shown P a ≡ shown Q b) where
+  pub order-shown : orderItems P x a ≡ orderItems Q y b
+  unfolding orderItems
+  order-shown = let r = shown-range P Q x y e in let s = shown-range P Q a b f in rw (r .0, r .1, s .0, s .1)
+
+  pub ends-shown : endsBelow P x a ≡ endsBelow Q y b
+  unfolding endsBelow
+  ends-shown = rw (shown-range P Q x y e .1, shown-range P Q a b f .0)
+
+  pub equal-shown : sameItem P x a ≡ sameItem Q y b
+  unfolding sameItem
+  equal-shown = rw (
+    ap (λ (s : Shown). s .0) e,
+    ap (λ (s : Shown). s .1) e,
+    ap (λ (s : Shown). s .2) e,
+    ap (λ (s : Shown). s .3) e,
+    ap (λ (s : Shown). s .0) f,
+    ap (λ (s : Shown). s .1) f,
+    ap (λ (s : Shown). s .2) f,
+    ap (λ (s : Shown). s .3) f,
+  )
 
 -- ---- ranks
 

@@ -1,7 +1,8 @@
 // Module 5 of document 01, its first part: the order of a list of items, and all that an insertion refuses before the room, in the order
 // that document 01 fixes. The crate `insert` has the call.
 // Definitions: specs/Order.antt, specs/Refusals.antt. specs/Passes.antt has what the pass over the list goes by. Laws: proofs/Ordered.antt
-// (an accepted list is one in which no item clashes with a later one), proofs/Accepted.antt (what accepted items and counts have).
+// (an accepted list is one in which no item clashes with a later one), proofs/Accepted.antt (what accepted items and counts have),
+// proofs/Ranked.antt (the order goes by what items show, and by their ranks).
 //
 // A function marked "inner" is public only because `insert` needs it. Its definition covers every input.
 ghost use mathlib.Core.Path.{_≡_};

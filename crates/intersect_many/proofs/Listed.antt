@@ -31,9 +31,9 @@ use Rattle.query_item.specs.declared.RangeSet.{RangeSet}
 use Rattle.query_item.specs.declared.ItemWords.{ItemWords}
 use Rattle.query_item.specs.declared.MaybeItem.{MaybeItem}
 use Rattle.query_item.specs.declared.MaybeItem.the-variants.{NoItem, Item}
-use Rattle.query_item.specs.Items.{bytesOf, itemSize, queryItem, wordsOf}
+use Rattle.query_item.specs.Items.{bytesOf, itemSize, wordsOf}
 use Rattle.query_item.specs.Boundaries.{fromTo, toRangeSet, rangeOf, itemBetween, toQueryItem}
-use Rattle.query_item.proofs.Laws.{Keeps, item-keeps, holds-converted, rankIn, less-rank, whole-upright}
+use Rattle.query_item.proofs.Laws.{query-words, Keeps, item-keeps, holds-converted, rankIn, less-rank, whole-upright}
 use Rattle.item_check.specs.Checks.{mostItems, malformed, outside, uprightFault, itemsOf}
 use Rattle.item_check.proofs.Laws.{AllSound, Following, InOrder, AcceptedList}
 use Rattle.intervals.specs.Intervals.{Interval, Above, Strict}
@@ -49,18 +49,6 @@ use Rattle.intersect_many.proofs.Written.{length-plain}
 use Rattle.intersect_many.proofs.Room.{length-words}
 
 -- ---- words read back
-
-query-words : (w : ℕ) (q : QueryItem) → queryItem (wordsOf w q) ≡ q
-query-words w (Key a) = refl
-query-words w (Range a b) = refl
-query-words w (RangeInclusive a b) = refl
-query-words w RangeFull = refl
-query-words w (RangeFrom a) = refl
-query-words w (RangeTo b) = refl
-query-words w (RangeToInclusive b) = refl
-query-words w (RangeAfter a) = refl
-query-words w (RangeAfterTo a b) = refl
-query-words w (RangeAfterToInclusive a b) = refl
 
 words-count : (Q : List QueryItem) → (length (wordsAll Q) / itemSize ≡ length Q) × (length (wordsAll Q) % itemSize ≡ 0)
 words-count Q = rw (length-words Q) (omega arith)

@@ -1,4 +1,4 @@
--- What demand 3 speaks of: the lists as words, the keys that a list holds, and items that are the same by kind and key bytes. Definitions only.
+-- What demand 3 speaks of: the lists as words, the keys that a list holds, and lists of items that are the same by bytes. Definitions only.
 -- It serves 01 demand.3, tight.7, and 02 §2.5. Assumes nothing.
 use Prim.Native.Nat.{ℕ, _≤_}
 use mathlib.Core.Path.{_≡_}
@@ -7,7 +7,7 @@ use mathlib.Core.List.{List, [], _∷_, map}
 use lib.ListN.{length}
 use Rattle.query_item.specs.declared.ItemWords.{ItemWords}
 use Rattle.query_item.specs.declared.QueryItem.{QueryItem}
-use Rattle.query_item.specs.Items.{bytesOf, queryItem, holds, holdsAny}
+use Rattle.query_item.specs.Items.{queryItem, holds, shown, holdsAny}
 use Rattle.query_item.specs.Boundaries.{rangeOf}
 use Rattle.keyless.specs.Keyless.{firstOf}
 use Rattle.item_check.specs.Checks.{accepted, mostItems, itemsOf, checkVerdict}
@@ -36,13 +36,6 @@ listHolds pool ws k = holdsAny pool (itemsOf ws) k
 abbrev pub EachHolds : List ℕ → List ItemWords → Type 0
 EachHolds pool [] = Unit {0}
 EachHolds pool (it ∷ its) = (holds pool (queryItem it) (firstOf pool (rangeOf it)) ≡ true) × EachHolds pool its
-
--- an item's kind, wrapper and key bytes
-abbrev pub Shown : Type 0
-Shown = ℕ × ℕ × List ℕ × List ℕ
-
-abbrev pub shown : List ℕ → ItemWords → Shown
-shown pool it = (it .code, it .wrapper, bytesOf pool (it .start), bytesOf pool (it .end))
 
 -- the same list, item by item
 abbrev pub SameItems : List ℕ → List ℕ → List ℕ → Type 0

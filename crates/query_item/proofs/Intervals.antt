@@ -1,8 +1,8 @@
 -- A range of a pool as an interval of ranks, at a size n that fits: the order of boundaries, upright and strict as numbers, what a range
 -- holds, and what `invert` does. Assumes nothing.
 use Prim.Native.Nat.{ℕ, _+_, _*_, _≤_, _<_}
-use mathlib.Core.Path.{_≡_, refl, sym, ap, _∙_}
-use mathlib.Core.Bool.{Bool, true, false, cond, _&&_}
+use mathlib.Core.Path.{_≡_, refl, sym, ap, ap₂, _∙_}
+use mathlib.Core.Bool.{Bool, true, false, _&&_}
 use mathlib.Core.List.{List}
 use native.Mathlib.Decide.{decLe}
 use native.Mathlib.Omega.{arith}
@@ -12,7 +12,7 @@ use Rattle.key_order.specs.Order.{isLess, isAtMost}
 use Rattle.key_order.specs.Boundary.{between}
 use Rattle.key_order.proofs.Line.{size, past}
 use Rattle.key_order.proofs.Numbers.{Says}
-use Rattle.key_order.proofs.Ranks.{extent, rank, keyRank, rank-bound, rank-says, boundary-less, boundary-at-most, between-rank}
+use Rattle.key_order.proofs.Ranks.{extent, rank, keyRank, rank-bound, rank-says, rank-same, boundary-less, boundary-at-most, between-rank}
 use Rattle.intervals.specs.Intervals.{Interval, inside}
 use Rattle.query_item.specs.declared.QueryItem.{QueryItem}
 use Rattle.query_item.specs.declared.QueryItem.the-variants.{
@@ -32,55 +32,11 @@ use Rattle.query_item.specs.declared.RangeSetItem.the-variants.{Unbounde
 use Rattle.query_item.specs.declared.RangeSet.{RangeSet}
 use Rattle.query_item.specs.declared.MaybeItem.{MaybeItem}
 use Rattle.query_item.specs.declared.MaybeItem.the-variants.{NoItem, Item}
-use Rattle.query_item.specs.Items.{bytesOf, same, holds, holdsMaybe}
-use Rattle.query_item.specs.Boundaries.{boundaryOf, compareIn, invertOf, toRangeSet, itemBetween, toQueryItem, upright}
+use Rattle.query_item.specs.Items.{holds, holdsMaybe}
+use Rattle.query_item.specs.Boundaries.{boundaryOf, compareIn, invertOf, toRangeSet, toQueryItem, upright}
 use Rattle.query_item.proofs.Fits.{boundary-fits}
 use Rattle.query_item.proofs.Held.{holds-between, holds-converted}
-
--- boundaries that a range can start with, and end with
-
-abbrev pub Starts : RangeSetItem → Type 0
-Starts UnboundedStart = Unit {0}
-Starts UnboundedEnd = ⊥
-Starts (Inclusive k) = Unit {0}
-Starts (ExclusiveStart k) = Unit {0}
-Starts (ExclusiveEnd k) = ⊥
-
-abbrev pub Ends : RangeSetItem → Type 0
-Ends UnboundedStart = ⊥
-Ends UnboundedEnd = Unit {0}
-Ends (Inclusive k) = Unit {0}
-Ends (ExclusiveStart k) = ⊥
-Ends (ExclusiveEnd k) = Unit {0}
-
--- a start and an end make an item
-
-abbrev Made : MaybeItem → Type 0
-Made NoItem = ⊥
-Made (Item q) = Unit {0}
-
-item-made : (pool : List ℕ) (s e : RangeSetItem) → Starts s → Ends e → Made (itemBetween pool s e)
-item-made pool (Inclusive a) (Inclusive b) h k = go (same (bytesOf pool a) (bytesOf pool b))
-  where
-    go : (t : Bool) → Made (cond t (Item (Key a)) (Item (RangeInclusive a b)))
-    go true = tt
-    go false = tt
-item-made pool (Inclusive a) (ExclusiveEnd b) h k = tt
-item-made pool (Inclusive a) UnboundedEnd h k = tt
-item-made pool (Inclusive a) UnboundedStart h k = k
-item-made pool (Inclusive a) (ExclusiveStart b) h k = k
-item-made pool (ExclusiveStart a) (Inclusive b) h k = tt
-item-made pool (ExclusiveStart a) (ExclusiveEnd b) h k = tt
-item-made pool (ExclusiveStart a) UnboundedEnd h k = tt
-item-made pool (ExclusiveStart a) UnboundedStart h k = k
-item-made pool (ExclusiveStart a) (ExclusiveStart b) h k = k
-item-made pool UnboundedStart (Inclusive b) h k = tt
-item-made pool UnboundedStart (ExclusiveEnd b) h k = tt
-item-made pool UnboundedStart UnboundedEnd h k = tt
-item-made pool UnboundedStart UnboundedStart h k = k
-item-made pool UnboundedStart (ExclusiveStart b) h k = k
-item-made pool UnboundedEnd e h k = h
-item-made pool (ExclusiveEnd a) e h k = h
+use Rattle.query_item.proofs.Told.{Starts, Ends, told, Tells, item-told}
 
 -- n is the pool's size, or more where an asked key is larger
 module _ (pool : List ℕ) (n : ℕ) (fits : size pool ≤ n) where
@@ -100,6 +56,15 @@ module _ (pool : List ℕ) (n : ℕ) (fits : size pool ≤ n) where
 
   pub rank-says-in : (x y : RangeSetItem) → Says (compareIn pool x y) (rankIn x) (rankIn y)
   rank-says-in x y = rank-says n (boundaryOf pool x) (boundaryOf pool y) (fit x) (fit y)
+
+  -- boundaries of one rank are the same by bytes
+  pub rank-same-in : (x y : RangeSetItem) → rankIn x ≡ rankIn y → boundaryOf pool x ≡ boundaryOf pool y
+  rank-same-in x y e = rank-same n (boundaryOf pool x) (boundaryOf pool y) (fit x) (fit y) e
+
+  -- and tell the same
+  pub told-same : (s t e f : RangeSetItem) → rankIn s ≡ rankIn t → rankIn e ≡ rankIn f
+      → told (boundaryOf pool s) (boundaryOf pool e) ≡ told (boundaryOf pool t) (boundaryOf pool f)
+  told-same s t e f p q = ap₂ told (rank-same-in s t p) (rank-same-in e f q)
 
   -- ---- ranges
 
@@ -159,11 +124,11 @@ module _ (pool : List ℕ) (n : ℕ) (fits : size pool ≤ n) where
   -- and so by the item that two boundaries make, which a start and an end do
   pub holds-made : (a : RangeSet) → Starts (a .start) → Ends (a .end) → (k : List ℕ) → size k ≤ n
       → holdsMaybe pool (toQueryItem pool a) k ≡ inside (interval a .0) (interval a .1) (keyRank n k)
-  holds-made a s e k h = go (toQueryItem pool a) refl (item-made pool (a .start) (a .end) s e) ∙ between-interval a k h
+  holds-made a s e k h = go (toQueryItem pool a) refl (item-told pool (a .start) (a .end) s e) ∙ between-interval a k h
     where
-      go : (m : MaybeItem) → toQueryItem pool a ≡ m → Made m → holdsMaybe pool m k ≡ between (boundaryOf pool (a .start)) (boundaryOf pool (a .end)) k
-      go NoItem i made = absurd made
-      go (Item q) i made = holds-converted pool (a .start) (a .end) q k i
+      go : (m : MaybeItem) → toQueryItem pool a ≡ m → Tells pool (a .start) (a .end) m → holdsMaybe pool m k ≡ between (boundaryOf pool (a .start)) (boundaryOf pool (a .end)) k
+      go NoItem i t = absurd t
+      go (Item q) i t = holds-converted pool (a .start) (a .end) q k i
 
   -- ---- a start that is not the first, inverted, ends just before it; an end that is not the last, inverted, starts just past it
 

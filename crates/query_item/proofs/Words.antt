@@ -1,11 +1,48 @@
--- Words of items that are not whole: what is past the list's end reads as 0. Assumes nothing.
+-- Items as words: what is written reads back; and words that are not whole, where what is past the list's end reads as 0. Assumes nothing.
 use Prim.Native.Nat.{ℕ, _+_, _*_, min}
-use mathlib.Core.Path.{_≡_, sym, ap, _∙_}
+use mathlib.Core.Path.{_≡_, refl, sym, ap, _∙_}
 use mathlib.Core.List.{List}
 use native.Mathlib.Decide.{decLe}
 use native.Mathlib.Omega.{arith}
 use lib.ListN.{length, getD, List·getD-eq-default}
-use Rattle.query_item.specs.Items.{keyAt, itemWords, itemSize, itemAt}
+use Rattle.query_item.specs.declared.QueryItem.{QueryItem}
+use Rattle.query_item.specs.declared.QueryItem.the-variants.{
+  Key,
+  Range,
+  RangeInclusive,
+  RangeFull,
+  RangeFrom,
+  RangeTo,
+  RangeToInclusive,
+  RangeAfter,
+  RangeAfterTo,
+  RangeAfterToInclusive,
+}
+use Rattle.query_item.specs.Items.{keyAt, itemWords, wordsOf, queryItem, itemSize, itemAt}
+
+pub query-words : (w : ℕ) (q : QueryItem) → queryItem (wordsOf w q) ≡ q
+query-words w (Key a) = refl
+query-words w (Range a b) = refl
+query-words w (RangeInclusive a b) = refl
+query-words w RangeFull = refl
+query-words w (RangeFrom a) = refl
+query-words w (RangeTo b) = refl
+query-words w (RangeToInclusive b) = refl
+query-words w (RangeAfter a) = refl
+query-words w (RangeAfterTo a b) = refl
+query-words w (RangeAfterToInclusive a b) = refl
+
+pub wrapper-words : (w : ℕ) (q : QueryItem) → wordsOf w q .wrapper ≡ w
+wrapper-words w (Key a) = refl
+wrapper-words w (Range a b) = refl
+wrapper-words w (RangeInclusive a b) = refl
+wrapper-words w RangeFull = refl
+wrapper-words w (RangeFrom a) = refl
+wrapper-words w (RangeTo b) = refl
+wrapper-words w (RangeToInclusive b) = refl
+wrapper-words w (RangeAfter a) = refl
+wrapper-words w (RangeAfterTo a b) = refl
+wrapper-words w (RangeAfterToInclusive a b) = refl
 
 module _ (ws : List ℕ) (i f : ℕ) (e : f ≡ min i (length ws)) where
   clipped : (m n k : ℕ) → m ≡ itemSize * f + k → n ≡ itemSize * i + k → getD ws m 0 ≡ getD ws n 0

@@ -128,6 +128,14 @@ flatAll (it ∷ its) = flat it ++ flatAll its
 unfoldable pub withItem : List ℕ → ℕ → ItemWords → List ℕ
 withItem ws i it = cond (ltb i (length ws / itemSize)) (sets ws (itemSize * i) (flat it)) ws
 
+-- 01 demand.3, 02 §10.1: items are the same by bytes where kind, wrapper and key bytes are
+
+abbrev pub Shown : Type 0
+Shown = ℕ × ℕ × List ℕ × List ℕ
+
+abbrev pub shown : List ℕ → ItemWords → Shown
+shown pool it = (it .code, it .wrapper, bytesOf pool (it .start), bytesOf pool (it .end))
+
 -- 01 demand.2: a list holds a key when one of its items does, by the table
 unfoldable pub holdsAny : List ℕ → List ItemWords → List ℕ → Bool
 holdsAny pool [] k = false

@@ -1,6 +1,6 @@
 // Module 2 of document 01: items and the boundaries of their ranges, and the types of its answers. `boundary` has boundaries as kinds beside
 // lent bytes, `item_check` the refusals and the checks of items and lists, `item_ask` the calls that check an item and answer.
-// Definitions: specs/Items.antt (the table), specs/Boundaries.antt (order, conversions). Laws: proofs/Laws.antt.
+// Definitions: specs/Items.antt (the table, and what items show), specs/Boundaries.antt (order, conversions). Laws: proofs/Laws.antt.
 //
 // A function marked "inner" is public only because other crates need it. It checks nothing: its definition covers every input.
 pub mod convert;

@@ -15,7 +15,7 @@ use Rattle.query_item.specs.declared.KeyAt.{KeyAt}
 use Rattle.query_item.specs.declared.ItemWords.{ItemWords}
 use Rattle.query_item.specs.declared.QueryItem.{QueryItem}
 use Rattle.query_item.specs.declared.MaybeItem.{MaybeItem}
-use Rattle.query_item.specs.Items.{keyAt, absent, itemWords, wordsOf, flatAll}
+use Rattle.query_item.specs.Items.{keyAt, absent, itemWords, wordsOf, flatAll, Shown, shown}
 use Rattle.boundary.specs.Kinds.{boundary}
 use Rattle.intervals.specs.Intervals.{Interval}
 use Rattle.item_check.specs.Checks.{Answer, answered, refused, Verdict, itemsOf}
@@ -24,7 +24,6 @@ use Rattle.intersect.specs.declared.QueryItemIntersectionResult.{QueryItemInter
 use Rattle.item_lists.specs.Written.{asItems}
 use Rattle.intersect.specs.Pair.{pairAnswer}
 use Rattle.intersect_many.specs.Lists.{sharedItems, onlyItems, manyAnswer}
-use Rattle.intersect_many.specs.Demand.{Shown, shown}
 use Rattle.insert.specs.Answers.{insertAnswer, listAfter}
 use Rattle.pairs_sort.specs.Pairs.{flatPairs}
 use Rattle.position_intervals.specs.Asked.{containsAnswer}

@@ -1,0 +1,39 @@
+-- Insertions one after the other, as callers make them, and the order in which they come. Definitions only. Assumes nothing.
+use Prim.Native.Nat.{ℕ}
+use mathlib.Core.List.{List, [], _∷_}
+use Rattle.query_item.specs.declared.ItemWords.{ItemWords}
+use Rattle.item_check.specs.Checks.{Answer, answered, refused}
+use Rattle.insert.specs.Insertion.{inserted}
+use Rattle.insert.specs.Answers.{insertAnswer, insertWords}
+
+-- 02 §10.1: inserting one and then the other: each item into the list that the ones before it left
+unfoldable pub insertedAll : List ℕ → List ItemWords → List ItemWords → List ItemWords
+insertedAll pool [] its = its
+insertedAll pool (new ∷ news) its = insertedAll pool news (inserted pool new its)
+
+-- 02 §10.1: as calls: each on the words, and with the count, that the one before it left; a refusal ends them
+
+abbrev pub nextAnswer : Answer ℕ → (ℕ → Answer ℕ) → Answer ℕ
+nextAnswer (answered n) next = next n
+nextAnswer (refused number side index) next = refused number side index
+
+abbrev pub nextWords : Answer ℕ → List ℕ → (ℕ → List ℕ) → List ℕ
+nextWords (answered n) ws next = next n
+nextWords (refused number side index) ws next = ws
+
+unfoldable pub insertAllAnswer : List ℕ → List ℕ → ℕ → List ItemWords → Answer ℕ
+insertAllAnswer pool ws count [] = answered count
+insertAllAnswer pool ws count (new ∷ news) =
+    nextAnswer (insertAnswer pool ws count new) (λ n. insertAllAnswer pool (insertWords pool ws count new) n news)
+
+unfoldable pub insertAllWords : List ℕ → List ℕ → ℕ → List ItemWords → List ℕ
+insertAllWords pool ws count [] = ws
+insertAllWords pool ws count (new ∷ news) =
+    nextWords (insertAnswer pool ws count new) ws (λ n. insertAllWords pool (insertWords pool ws count new) n news)
+
+-- 02 §10.1: whichever goes first: neighbours exchanged, any number of times, which gives every order of some items
+pub data Exchanged : List ItemWords → List ItemWords → Type 0 where
+  kept : (news : List ItemWords) → Exchanged news news
+  swapped : (x y : ItemWords) (news : List ItemWords) → Exchanged (x ∷ y ∷ news) (y ∷ x ∷ news)
+  behind : (x : ItemWords) {xs ys : List ItemWords} → Exchanged xs ys → Exchanged (x ∷ xs) (x ∷ ys)
+  again : {xs ys zs : List ItemWords} → Exchanged xs ys → Exchanged ys zs → Exchanged xs zs
