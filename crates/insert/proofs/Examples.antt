@@ -85,7 +85,8 @@ full = flat (key 0 0)
 
 -- 02 §10.1: there has to be room in both orders: [01,03] and then Key 02 fit there, as all merge; Key 02 and then [01,03] do not
 room-differs : (insertAllAnswer pool full 1 (closed 0 0 1 ∷ key 0 4 ∷ []) ≡ answered 1) × (insertAllAnswer pool full 1 (key 0 4 ∷ closed 0 0 1 ∷ []) ≡ refused 6 0 0)
-unfolding insertAllAnswer inserted staying mergedWith merged placed fateOf orderItems sameItem endsBelow clashes firstClash firstBad laid flatAll itemAt itemsFrom compareBoundaries compareKeys compareNumbers
+unfolding insertAllAnswer inserted staying mergedWith merged placed fateOf orderItems sameItem endsBelow clashes firstClash firstBad laid flatAll
+    itemAt itemsFrom compareBoundaries compareKeys compareNumbers
 room-differs = (refl, refl)
 
 -- a place more, with words that nothing has written
@@ -95,5 +96,6 @@ spare = 7 ∷ 7 ∷ 7 ∷ 7 ∷ 7 ∷ 7 ∷ []
 -- 02 §10.1: the items are the same then, and not the words past them: the second order has used these, and leaves 0
 words-differ : (insertAllWords pool (full ++ spare) 1 (closed 0 0 1 ∷ key 0 4 ∷ []) ≡ flat (closed 0 0 1) ++ spare)
     × (insertAllWords pool (full ++ spare) 1 (key 0 4 ∷ closed 0 0 1 ∷ []) ≡ flat (closed 0 0 1) ++ (0 ∷ 0 ∷ 0 ∷ 0 ∷ 0 ∷ 0 ∷ []))
-unfolding insertAllWords inserted staying mergedWith merged placed fateOf orderItems sameItem endsBelow clashes firstClash firstBad laid flatAll itemAt itemsFrom compareBoundaries compareKeys compareNumbers
+unfolding insertAllWords inserted staying mergedWith merged placed fateOf orderItems sameItem endsBelow clashes firstClash firstBad laid flatAll
+    itemAt itemsFrom compareBoundaries compareKeys compareNumbers
 words-differ = (refl, refl)
