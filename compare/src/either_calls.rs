@@ -1,6 +1,7 @@
 //! Insertions in either order (02 §10.1): every two plain items into all lists over few keys, and several into longer lists by chance, in two
-//! orders each. The two lists are held against each other, item by item, by kind, wrapper and key bytes. The order matters where one of two
-//! items of one range is wrapped: the later stands first (02 §10.2).
+//! orders each. The two lists are held against each other, item by item, by kind, wrapper and key bytes; with less room than both orders want,
+//! each is refused exactly where the list would pass it on the way. The order matters where one of two items of one range is wrapped: the
+//! later stands first (02 §10.2).
 
 use crate::{
     boundaries::paper::range,
@@ -24,9 +25,9 @@ pub fn run(size: &Size) -> Vec<Row> {
         arrival: Row::new("insert_item, two items of one range, not both plain"),
     };
     let (pool, keys) = few_keys(4);
-    for chosen in size.either {
+    for (chosen, wrappers) in size.either {
         let keys: Vec<[u32; 2]> = chosen.iter().map(|at| keys[*at]).collect();
-        rows.all_lists(&pool, &keys);
+        rows.all_lists(&pool, &keys, *wrappers);
         rows.all_arrivals(&pool, &keys);
     }
     for _ in 0..size.random / 8 {
@@ -42,65 +43,72 @@ struct Rows {
     arrival: Row,
 }
 
-/// What some calls leave, one after the other: the items, or what the first that refuses returns.
+/// The items that some calls leave, one after the other, or what the first that refuses returns.
 type Inserted = Result<Vec<Option<Shown>>, u64>;
 
-fn insert_all(pool: &[u8], list: &[u32], room: usize, items: &[Words]) -> Inserted {
+/// The same, and the most items that there were on the way.
+fn insert_counting(pool: &[u8], list: &[u32], room: usize, items: &[Words]) -> (Inserted, usize) {
     let mut left = Left::new(list, 6 * room - list.len());
     let mut count = list.len() / 6;
+    let mut most = count;
     for item in items {
         left = left.call(pool, count, *item);
         if left.returned != 0 {
-            return Err(left.returned);
+            return (Err(left.returned), most);
         }
         count = left.after as usize;
+        most = most.max(count);
     }
-    Ok(shown(&left.words[..6 * count], pool))
+    (Ok(shown(&left.words[..6 * count], pool)), most)
+}
+
+fn insert_all(pool: &[u8], list: &[u32], room: usize, items: &[Words]) -> Inserted {
+    insert_counting(pool, list, room, items).0
 }
 
 impl Rows {
-    /// Every two plain items into all lists of at most three items in insertion order, over the keys and two wrappers.
-    fn all_lists(&mut self, pool: &[u8], keys: &[[u32; 2]]) {
-        let items = upright_items(pool, keys, 2);
+    /// Every two plain items into all lists of at most three items in insertion order, over the keys and so many wrappers.
+    fn all_lists(&mut self, pool: &[u8], keys: &[[u32; 2]], wrappers: u32) {
+        let items = upright_items(pool, keys, wrappers);
         let plain: Vec<Words> = items.iter().copied().filter(|item| item[1] == 0).collect();
         let full = [3, 0, 0, 0, 0, 0];
         for list in lists_of(&items, 3, |list| accepted(pool, list, full)) {
             let words = list.concat();
             for (at, &x) in plain.iter().enumerate() {
-                for &y in &plain[at..] {
+                for &y in &plain[at + 1..] {
                     self.hold_two(pool, &words, x, y);
                 }
             }
         }
     }
 
-    /// With room for both the two orders answer, and give the same items; with less, each answers or refuses for want of room, and where both
-    /// answer they give the same items.
+    /// With room for both the two orders answer, and give the same items; with less, each gives these, or refuses if there were more of them on
+    /// the way.
     fn hold_two(&mut self, pool: &[u8], list: &[u32], x: Words, y: Words) {
         let input = |room: usize| move || told(pool, list, room, &[x, y]);
         let both = |room: usize| {
-            [[x, y], [y, x]].map(|items: [Words; 2]| insert_all(pool, list, room, &items))
+            [[x, y], [y, x]].map(|items: [Words; 2]| insert_counting(pool, list, room, &items))
         };
         let count = list.len() / 6;
-        let [one, other] = both(count + 2);
+        let [(one, one_most), (other, other_most)] = both(count + 2);
+        for room in [count, count + 1] {
+            let expected = [one_most, other_most].map(|most| match most > room {
+                true => Err(6),
+                false => one.clone(),
+            });
+            self.scarce.hold(
+                input(room),
+                Against::paper(both(room).map(|left| left.0), expected),
+            );
+        }
         let answers = one.is_ok();
         self.either.hold(
             input(count + 2),
             Against::paper((answers, one), (true, other)),
         );
-        for room in [count, count + 1] {
-            let left = both(room);
-            let answer = left.iter().find(|one| one.is_ok()).cloned();
-            let expected = left.each_ref().map(|one| match one {
-                Ok(_) => answer.clone().unwrap_or(Err(0)),
-                Err(_) => Err(6),
-            });
-            self.scarce
-                .hold(input(room), Against::paper(left, expected));
-        }
     }
 
-    /// Every two items of one range that are not both plain, and not equal: in order of arrival, the later first.
+    /// Every two items of one range that are not both plain, and not equal, into no list: in order of arrival, the later first.
     fn all_arrivals(&mut self, pool: &[u8], keys: &[[u32; 2]]) {
         let items = upright_items(pool, keys, 4);
         for &x in &items {
@@ -120,7 +128,7 @@ impl Rows {
         }
     }
 
-    /// Up to eight plain items, some of them the list's own, in one order and in another.
+    /// Up to eight plain items, the first at times of a range that the list has, in one order and in another.
     fn random(&mut self, random: &mut Random) {
         let keys = Keys::new(random, 24);
         let list = keys.insertion_list(random, 24);
@@ -133,6 +141,9 @@ impl Rows {
         let mut others = items.clone();
         for at in 1..others.len() {
             others.swap(at, random.below(at + 1));
+        }
+        if others == items {
+            return;
         }
         let (pool, list) = (&keys.pool, list.concat());
         let room = list.len() / 6 + items.len();

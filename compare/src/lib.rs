@@ -80,8 +80,9 @@ pub struct Size {
     longest: usize,
     /// the keys over which every item is inserted into all lists of three items
     inserted: usize,
-    /// of `few_keys`, those over which every two plain items are inserted into all lists of three items, in either order
-    either: &'static [&'static [usize]],
+    /// of `few_keys`, those over which every two plain items are inserted into all lists of three items, in either order, and how many wrappers
+    /// these have
+    either: &'static [(&'static [usize], u32)],
     /// the most items of all the lists over keys of two bytes that are tried as rate cards
     carded: usize,
     /// the positions over which all queries of two items are tried
@@ -108,7 +109,7 @@ pub const SHORT: Size = Size {
     long_lists: 2,
     longest: 512,
     inserted: 2,
-    either: &[&[0, 1], &[0, 2]],
+    either: &[(&[0, 1], 2), (&[0, 2], 2), (&[0, 3], 2)],
     carded: 2,
     positions: 6,
     logged: 6,
@@ -128,7 +129,7 @@ pub const LONG: Size = Size {
     long_lists: 6,
     longest: 2_048,
     inserted: 4,
-    either: &[&[0, 1, 2], &[0, 3], &[2, 3]],
+    either: &[(&[0, 1, 3], 2), (&[0, 2, 3], 2), (&[0, 2], 3)],
     carded: 3,
     positions: 10,
     logged: 8,

@@ -249,10 +249,11 @@ bytes; pools of 65,535, 65,536 and 65,537 bytes; buffers exactly full and one sh
 and covers and uncovers of stored lists against PostgreSQL's multiranges (`tools/multiranges`); neither is in the table.
 
 \"As the Rust\" counts calls that answer what the Rust answers. \"As the papers\" counts calls that answer and leave what a small plain reading
-of document 01, and of what is built of 02, in `compare/` says: refusals, the words written and the words not written, which the Rust hasn't; it is no agreement with the
-Rust. Rows of laws and of orders hold what some of our calls leave against what others leave; what is held together counts once. A dash: there is nothing of that side to hold the calls against. Listed differences bear their number in docs/DIFFERENCES.md; the rows
-named after one run its inputs, and hold both sides to what stands there. Anything else is a failure. Calls in brackets are counted in another
-row, or are none of ours.
+of document 01, and of what is built of 02, in `compare/` says: refusals, the words written and the words not written, which the Rust hasn't;
+it is no agreement with the Rust. In rows of laws and of orders several calls are one case, held against other calls of ours or against what
+the papers say of them together, and counted once. A dash: there is nothing of that side to hold the calls against. Listed differences bear
+their number in docs/DIFFERENCES.md; the rows named after one run its inputs, and hold both sides to what stands there. Anything else is a
+failure. Calls in brackets are counted in another row, or are none of ours.
 
 | function | calls | as the Rust | as the papers | listed differences | failures |
 |---|--:|--:|--:|--:|--:|

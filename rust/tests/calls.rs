@@ -265,8 +265,9 @@ fn insertion_by_hand() {
 
 #[test]
 fn insertions_in_any_order() {
+    let sum = Item::new(Wrapper::Sum, QueryItem::Key(at(2)));
     let saved = |items: &[Item]| {
-        let mut list = vec![Item::new(Wrapper::Sum, QueryItem::Key(at(2)))];
+        let mut list = vec![sum];
         for item in items {
             insert(&pool(), &mut list, *item).unwrap();
         }
@@ -287,29 +288,36 @@ fn insertions_in_any_order() {
         [2, 1, 0],
     ] {
         let list = saved(&[items[x], items[y], items[z]]);
-        assert_eq!(shown(&list), ["RangeInclusive 01 05", "Key 02"]);
+        assert_eq!(list, [Item::range_inclusive(at(1), at(5)), sum]);
     }
     for some in [[items[0], items[1]], [items[1], items[0]]] {
-        let list = saved(&some);
-        assert_eq!(shown(&list), ["RangeInclusive 01 03", "Key 02", "Key 05"]);
+        assert_eq!(saved(&some), [items[0], sum, items[1]]);
     }
     // a wrapped item and one of the same range: the later first
     let [plain, count] =
         [Wrapper::Plain, Wrapper::Count].map(|w| Item::new(w, QueryItem::Key(at(5))));
-    assert_eq!(saved(&[plain, count])[1..], [count, plain]);
-    assert_eq!(saved(&[count, plain])[1..], [plain, count]);
+    assert_eq!(saved(&[plain, count]), [sum, count, plain]);
+    assert_eq!(saved(&[count, plain]), [sum, plain, count]);
 }
 
 #[test]
 fn room_in_one_order_only() {
     let (range, key) = (Item::range_inclusive(at(1), at(3)), Item::key(at(2)));
-    let saved = |one, other| {
-        let mut lent = [Item::key(at(1))];
-        let after = insert_item(&pool(), &mut lent, 1, one)?;
-        insert_item(&pool(), &mut lent, after, other)
+    let saved = |lent: &mut [Item], one, other| {
+        let after = insert_item(&pool(), lent, lent.len(), one)?;
+        insert_item(&pool(), lent, after, other)
     };
-    assert_eq!(saved(range, key), Ok(1));
-    assert_eq!(saved(key, range).unwrap_err().reason(), Reason::NoRoom);
+    for lent in [
+        &[Item::key(at(1))][..],
+        &[Item::key(at(1)), Item::key(at(9))],
+    ] {
+        let mut left = lent.to_vec();
+        assert_eq!(saved(&mut left, range, key), Ok(lent.len()));
+        assert_eq!(left[0], range);
+        let mut left = lent.to_vec();
+        let refused = saved(&mut left, key, range).unwrap_err();
+        assert_eq!((refused.reason(), &left[..]), (Reason::NoRoom, lent));
+    }
 }
 
 /// [01,05), then [05,09], then the key 0B, which is wrapped.

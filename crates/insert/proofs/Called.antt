@@ -11,10 +11,10 @@ use borrow.Author.Tests.{ltb-false, le-ltb}
 use Rattle.query_item.specs.declared.ItemWords.{ItemWords}
 use Rattle.query_item.specs.Items.{itemSize, itemsFrom}
 use Rattle.item_check.specs.Checks.{Answer, answered, refused, accepted, mostItems, poolVerdict, uprightFault}
-use Rattle.item_check.proofs.Laws.{accepts, answers}
+use Rattle.item_check.proofs.Laws.{answers}
 use Rattle.item_lists.proofs.Written.{length-flat}
 use Rattle.insert_order.specs.Refusals.{bufferVerdict, orderedVerdict, inputVerdict}
-use Rattle.insert_order.proofs.Accepted.{input-count, input-list, input-new}
+use Rattle.insert_order.proofs.Accepted.{input-pool, input-buffer, input-count, input-list, input-new}
 use Rattle.insert.specs.Insertion.{inserted}
 use Rattle.insert.specs.Answers.{roomAnswer, laid, wordsBy, listAfter, checkedAnswer, insertAnswer, insertWords}
 use Rattle.insert.proofs.Laws.{insert-accepted, laid-items}
@@ -62,15 +62,17 @@ module _ (pool ws : List ℕ) (count : ℕ) (new : ItemWords) (n : ℕ) (e : ins
   room : (length after ≡ n) × (length after ≤ length ws / itemSize) × (length after ≤ mostItems)
   room = room-passed ws (length after) n (passed .1)
 
-  written : insertWords pool ws count new ≡ laid ws count after
-  written = ap (λ (r : Answer ℕ). wordsBy r ws (laid ws count after)) e
+  words-left : insertWords pool ws count new ≡ laid ws count after
+  words-left = ap (λ (r : Answer ℕ). wordsBy r ws (laid ws count after)) e
 
   -- the list was accepted, and the new item passes the checks
 
   pub called-list : Ready pool ws count
-  called-list =
-      let p = accepts (poolVerdict pool) _ .0 (passed .0) in
-      record { small = p .0; within = accepts (bufferVerdict ws count) _ .0 (p .1) .0; listed = input-list pool ws count new (passed .0) }
+  called-list = record {
+    small = input-pool pool ws count new (passed .0);
+    within = input-buffer pool ws count new (passed .0);
+    listed = input-list pool ws count new (passed .0);
+  }
 
   pub called-item : uprightFault pool new ≡ 0
   called-item = input-new pool ws count new (passed .0)
@@ -81,11 +83,11 @@ module _ (pool ws : List ℕ) (count : ℕ) (new : ItemWords) (n : ℕ) (e : ins
 
   -- these are the list after insertion
   pub called-items : itemsFrom (insertWords pool ws count new) 0 n ≡ inserted pool new (itemsFrom ws 0 count)
-  called-items = rw (written, called-count) (laid-items ws count after)
+  called-items = rw (words-left, called-count) (laid-items ws count after)
 
   -- the buffer is as long as before
   pub called-size : length (insertWords pool ws count new) ≡ length ws
-  called-size = rw written (length-laid ws count after (input-count pool ws count new (passed .0)) (room .1))
+  called-size = rw words-left (length-laid ws count after (input-count pool ws count new (passed .0)) (room .1))
 
   -- and the next call accepts it, with the count that is answered
   pub called-ready : Ready pool (insertWords pool ws count new) n

@@ -18,7 +18,7 @@ use Rattle.insert_merge.specs.declared.Fate.{Fate}
 use Rattle.insert_merge.specs.declared.Fate.the-variants.{Replaced, Stays, Merges}
 use Rattle.insert_merge.specs.Merge.{fateOf, staying, mergedWith}
 use Rattle.insert_merge.proofs.Merged.{fate-is, fate-same, fate-itself, Alone, merged-none, merged-low, merged-high, merged-plain}
-use Rattle.insert_merge.proofs.Staying.{Gone, merges-gone, stays-or-gone, among-staying, staying-keeps, staying-pairwise, staying-comm, merged-staying}
+use Rattle.insert_merge.proofs.Staying.{Gone, merges-gone, stays-or-gone, among-staying, staying-keeps, staying-sorted, staying-comm, merged-staying}
 use Rattle.insert_merge.proofs.Reach.{PlainUpright, gone-touches, stays-apart, apart-stays, Enclosed, new-enclosed, gone-enclosed}
 use Rattle.insert_merge.proofs.Converted.{Converted, converted-or-alone, same-converted, ranks-shown}
 use Rattle.insert.specs.Insertion.{placed, inserted}
@@ -109,7 +109,7 @@ module _ (pool : List ℕ) (its : List ItemWords) where
       both-placed o = rw (
         merged-past pool y (M x) y (staying pool x its) e,
         merged-staying pool x y y its spared,
-        staying-placed pool y (M x) (staying pool x its) (staying-pairwise pool (λ a b. K a ≤ K b) x its o) e,
+        staying-placed pool y (M x) (staying pool x its) (staying-sorted pool x its o) e,
       )
 
     -- ---- it does

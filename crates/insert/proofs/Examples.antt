@@ -69,33 +69,56 @@ converted-either : (inserted pool (key 0 2) (inserted pool (closed 0 2 2) []) �
 unfolding inserted staying mergedWith merged placed fateOf orderItems sameItem endsBelow compareBoundaries compareKeys compareNumbers
 converted-either = (refl, refl)
 
--- 02 §10.3: offsets differ where equal keys stand at two places: of two equal items the later one's stay
-offsets-differ : (inserted pool (key 0 6) (inserted pool (key 0 2) []) ≡ key 0 6 ∷ []) × (inserted pool (key 0 2) (inserted pool (key 0 6) []) ≡ key 0 2 ∷ [])
-unfolding inserted staying mergedWith merged placed fateOf orderItems sameItem endsBelow compareBoundaries compareKeys compareNumbers
-offsets-differ = (refl, refl)
+-- RangeFull with a wrapper; Key and RangeAfter of the empty key
 
--- 02 §10.2: a plain and a wrapped item of one range stand in order of arrival, the later first
-later-first : (inserted pool (key 0 2) (inserted pool (key 1 2) []) ≡ key 0 2 ∷ key 1 2 ∷ []) × (inserted pool (key 1 2) (inserted pool (key 0 2) []) ≡ key 1 2 ∷ key 0 2 ∷ [])
-unfolding inserted staying mergedWith merged placed fateOf orderItems sameItem endsBelow compareBoundaries compareKeys compareNumbers
-later-first = (refl, refl)
+abbrev all : ℕ → ItemWords
+all w = itemWords 3 w absent absent
 
--- a place for one item, and Key 01 in it
-abbrev full : List ℕ
-full = flat (key 0 0)
+abbrev empty : ℕ → ItemWords
+empty o = itemWords 0 0 (keyAt o 0) absent
 
--- 02 §10.1: there has to be room in both orders: [01,03] and then Key 02 fit there, as all merge; Key 02 and then [01,03] do not
-room-differs : (insertAllAnswer pool full 1 (closed 0 0 1 ∷ key 0 4 ∷ []) ≡ answered 1) × (insertAllAnswer pool full 1 (key 0 4 ∷ closed 0 0 1 ∷ []) ≡ refused 6 0 0)
-unfolding insertAllAnswer inserted staying mergedWith merged placed fateOf orderItems sameItem endsBelow clashes firstClash firstBad laid flatAll
-    itemAt itemsFrom compareBoundaries compareKeys compareNumbers
-room-differs = (refl, refl)
+abbrev past : ItemWords
+past = itemWords 7 0 (keyAt 0 0) absent
 
--- a place more, with words that nothing has written
+-- a pool of one byte; a place for one item, with Key of the empty key in it; another place, with words that nothing has written
+
+abbrev byte : List ℕ
+byte = 1 ∷ []
+
+abbrev one : List ℕ
+one = flat (empty 0)
+
 abbrev spare : List ℕ
 spare = 7 ∷ 7 ∷ 7 ∷ 7 ∷ 7 ∷ 7 ∷ []
 
--- 02 §10.1: the items are the same then, and not the words past them: the second order has used these, and leaves 0
-words-differ : (insertAllWords pool (full ++ spare) 1 (closed 0 0 1 ∷ key 0 4 ∷ []) ≡ flat (closed 0 0 1) ++ spare)
-    × (insertAllWords pool (full ++ spare) 1 (key 0 4 ∷ closed 0 0 1 ∷ []) ≡ flat (closed 0 0 1) ++ (0 ∷ 0 ∷ 0 ∷ 0 ∷ 0 ∷ 0 ∷ []))
+-- a plain item that merges is put anew, and so arrives anew: count [01,03] came after the first [01,03], and before Key 02
+arrives-anew : inserted pool (key 0 4) (inserted pool (closed 1 0 1) (closed 0 0 1 ∷ [])) ≡ closed 0 0 1 ∷ closed 1 0 1 ∷ []
+unfolding inserted staying mergedWith merged placed fateOf orderItems sameItem endsBelow compareBoundaries compareKeys compareNumbers
+arrives-anew = refl
+
+-- The smallest inputs in which something differs: no key where none is needed, else the empty key alone.
+
+-- 02 §10.2: a plain and a wrapped item of one range stand in order of arrival, the later first: RangeFull, into no list
+later-first : (inserted [] (all 0) (inserted [] (all 1) []) ≡ all 0 ∷ all 1 ∷ []) × (inserted [] (all 1) (inserted [] (all 0) []) ≡ all 1 ∷ all 0 ∷ [])
+unfolding inserted staying mergedWith merged placed fateOf orderItems sameItem endsBelow compareBoundaries compareKeys compareNumbers
+later-first = (refl, refl)
+
+-- 02 §10.3: offsets differ where equal keys stand at two places: the empty key at both ends of one byte. Of two equal items the later one's stay
+offsets-differ : (inserted byte (empty 1) (inserted byte (empty 0) []) ≡ empty 1 ∷ []) × (inserted byte (empty 0) (inserted byte (empty 1) []) ≡ empty 0 ∷ [])
+unfolding inserted staying mergedWith merged placed fateOf orderItems sameItem endsBelow compareBoundaries compareKeys compareNumbers
+offsets-differ = (refl, refl)
+
+-- 02 §10.1: there has to be room in both orders: beside the empty key, with a place for one item, RangeFull and then all past that key fit, as
+-- they merge; the other way round the first is refused, and the second not tried
+room-differs : (insertAllAnswer [] one 1 (all 0 ∷ past ∷ []) ≡ answered 1) × (insertAllAnswer [] one 1 (past ∷ all 0 ∷ []) ≡ refused 6 0 0)
+    × (insertAllWords [] one 1 (past ∷ all 0 ∷ []) ≡ one)
+unfolding insertAllAnswer insertAllWords inserted staying mergedWith merged placed fateOf orderItems sameItem endsBelow clashes firstClash firstBad laid
+    flatAll itemAt itemsFrom compareBoundaries compareKeys compareNumbers
+room-differs = (refl, refl, refl)
+
+-- 02 §10.1: with a place more the items are the same, and not the words past them: the second order has used these, and leaves 0
+words-differ : (insertAllWords [] (one ++ spare) 1 (all 0 ∷ past ∷ []) ≡ flat (all 0) ++ spare)
+    × (insertAllWords [] (one ++ spare) 1 (past ∷ all 0 ∷ []) ≡ flat (all 0) ++ (0 ∷ 0 ∷ 0 ∷ 0 ∷ 0 ∷ 0 ∷ []))
 unfolding insertAllWords inserted staying mergedWith merged placed fateOf orderItems sameItem endsBelow clashes firstClash firstBad laid flatAll
     itemAt itemsFrom compareBoundaries compareKeys compareNumbers
 words-differ = (refl, refl)

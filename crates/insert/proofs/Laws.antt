@@ -1,19 +1,18 @@
 -- The laws of insertion, each stated once. Assumes nothing.
-use Prim.Native.Nat.{ℕ, suc, _-_, _*_, _≤_, max}
+use Prim.Native.Nat.{ℕ, suc, _-_, _*_, max}
 use mathlib.Core.Path.{_≡_, refl, ap}
 use mathlib.Core.Bool.{Bool, true, false, cond, _||_, _&&_}
 use mathlib.Core.Logic.{inl, inr}
 use mathlib.Core.List.{List, [], _∷_, _++_, map}
 use lib.ListN.{length, take, drop, replicate}
+use Rattle.key_order.specs.declared.Ordering.the-variants.{Equal}
 use Rattle.key_order.specs.Order.{isLess}
-use Rattle.key_order.proofs.Line.{size}
 use Rattle.query_item.specs.declared.ItemWords.{ItemWords}
 use Rattle.query_item.specs.Items.{itemSize, itemsFrom, shown, holds, queryItem, holdsAny}
 use Rattle.item_check.specs.Checks.{accepted, uprightFault}
 use Rattle.item_check.proofs.Laws.{refused-apart}
-use Rattle.insert_order.specs.Order.{orderItems, plain}
+use Rattle.insert_order.specs.Order.{orderItems, plain, sameItem}
 use Rattle.insert_order.specs.Refusals.{orderVerdict, orderedVerdict}
-use Rattle.insert_order.proofs.Ranked.{itemRank}
 use Rattle.insert_order.proofs.Ordered.{Among}
 use Rattle.insert_order.proofs.Accepted.{accepted-sorted, upright-ranks}
 use Rattle.insert.specs.declared.Inserted.{Inserted}
@@ -21,7 +20,7 @@ use Rattle.insert.specs.declared.Inserted.the-variants.{Count, Refused}
 use Rattle.insert_merge.specs.declared.Fate.the-variants.{Stays}
 use Rattle.insert_merge.specs.Merge.{fateOf, staying, mergedWith}
 use Rattle.insert_merge.proofs.Merged.{merged-none}
-use Rattle.insert_merge.proofs.Staying.{stays-not, staying-all, staying-pairwise, staying-shown}
+use Rattle.insert_merge.proofs.Staying.{merges-gone, staying-keeps, staying-all, staying-sorted, staying-shown}
 use Rattle.insert_merge.proofs.Converted.{result-shown}
 use Rattle.insert.specs.Insertion.{placed, inserted}
 use Rattle.insert.specs.Answers.{insertedOf, laid}
@@ -30,7 +29,7 @@ use Rattle.item_lists.proofs.Read.{items-read}
 use Rattle.insert.proofs.Accepted.{list-inserted}
 use Rattle.insert.proofs.Holding.{holds-inserted}
 use Rattle.insert.proofs.Ordered.{order-inserted}
-use Rattle.insert.proofs.Placed.{Divides, placed-between, placed-shown}
+use Rattle.insert.proofs.Placed.{Divides, placed-between, StandsBefore, stands-before, placed-among, placed-shown}
 use Rattle.insert.proofs.Either.{either-shown}
 
 -- ---- the answer
@@ -64,14 +63,27 @@ pub holds-insert : (pool : List ℕ) (new : ItemWords) (its : List ItemWords) (k
     → holdsAny pool (inserted pool new its) k ≡ holds pool (queryItem new) k || holdsAny pool its k
 holds-insert pool new its k = holds-inserted pool k new its
 
--- 01 m5.6, 02 §10.2: what stays that is below the result stands before it, in the list's order, and all else behind it; so of items that cover
--- one range, a plain and a wrapped one or two wrapped ones, the later stands first
+-- 01 m5.6, 02 §10.2: what stays that is below the result stands before it, in the list's order, and all else behind it
 pub insert-between : (pool : List ℕ) (new : ItemWords) (its : List ItemWords) → orderedVerdict pool its ≡ accepted
     → Divides pool (mergedWith pool new new its) (staying pool new its) (inserted pool new its)
 unfolding inserted
 insert-between pool new its e =
-    placed-between pool (mergedWith pool new new its) (staying pool new its)
-    (staying-pairwise pool (λ x y. itemRank (size pool) pool x ≤ itemRank (size pool) pool y) new its (accepted-sorted pool its e))
+    placed-between pool (mergedWith pool new new its) (staying pool new its) (staying-sorted pool new its (accepted-sorted pool its e))
+
+-- 02 §10.2: one item is inserted and then another. Where what they become covers one range, and the other is not equal to what the first became,
+-- nor are both plain, they stand in order of arrival: the later first
+pub insert-arrival : (pool : List ℕ) (its : List ItemWords) (x y : ItemWords) → orderedVerdict pool its ≡ accepted → uprightFault pool x ≡ 0
+    → sameItem pool y (mergedWith pool x x its) ≡ false → plain y && plain (mergedWith pool x x its) ≡ false
+    → orderItems pool (mergedWith pool x x its) (mergedWith pool y y (inserted pool x its)) ≡ Equal
+    → StandsBefore pool (mergedWith pool y y (inserted pool x its)) (mergedWith pool x x its) (inserted pool y (inserted pool x its))
+unfolding inserted fateOf
+insert-arrival pool its x y a u n w e =
+    let first = mergedWith pool x x its in
+    let list = inserted pool x its in
+    stands-before pool (mergedWith pool y y list) (staying pool y list) (inserted pool y list)
+    (insert-between pool y list (insert-accepted pool x its a u)) first
+    (staying-keeps pool y list first (placed-among pool first (staying pool x its) first (inl refl)) (rw (n, w)))
+    (ap isLess e)
 
 -- 02 §10.1: two plain upright items may be inserted in either order: the lists are the same by bytes
 pub insert-either : (pool : List ℕ) (its : List ItemWords) (x y : ItemWords) → orderedVerdict pool its ≡ accepted → uprightFault pool x ≡ 0
@@ -109,4 +121,4 @@ module _ (pool : List ℕ) (new : ItemWords) where
   pub insert-apart : (its : List ItemWords) → ((x : ItemWords) → Among x its → fateOf pool new x ≡ Stays)
       → inserted pool new its ≡ take (firstChanged pool new new its) its ++ (new ∷ drop (firstChanged pool new new its) its)
   unfolding inserted
-  insert-apart its f = rw (staying-all pool new its f, merged-none pool new new its (λ x m. stays-not pool new x (f x m))) (apart-between its f)
+  insert-apart its f = rw (staying-all pool new its f, merged-none pool new new its (λ x m e. merges-gone pool new x e (f x m))) (apart-between its f)

@@ -2,7 +2,7 @@
 -- what stays beside another item may be looked for before or after. Assumes nothing.
 use Prim.Native.Nat.{ℕ, _≤_, _<_}
 use mathlib.Core.Path.{_≡_, refl, sym, ap, ap₂, _∙_}
-use mathlib.Core.Bool.{Bool, true, false, cond}
+use mathlib.Core.Bool.{Bool, true, false, cond, true≢false}
 use mathlib.Core.Logic.{_⊎_, inl, inr, ⊎-elim}
 use mathlib.Core.List.{List, [], _∷_, _++_, map}
 use native.Mathlib.Omega.{arith}
@@ -37,13 +37,13 @@ module _ (pool : List ℕ) where
     pub front : List ItemWords
     pub back : List ItemWords
     pub parts : others ≡ front ++ back
-    pub joined : whole ≡ front ++ (result ∷ back)
+    pub together : whole ≡ front ++ (result ∷ back)
     pub before : (y : ItemWords) → Among y front → isLess (orderItems pool y result) ≡ true
     pub behind : (y : ItemWords) → Among y back → isLess (orderItems pool y result) ≡ false
 
   pub placed-between : (result : ItemWords) (its : List ItemWords) → Sorted pool its → Divides result its (placed pool result its)
   unfolding placed
-  placed-between result [] o = record { front = []; back = []; parts = refl; joined = refl; before = λ y m. absurd m; behind = λ y m. absurd m }
+  placed-between result [] o = record { front = []; back = []; parts = refl; together = refl; before = λ y m. absurd m; behind = λ y m. absurd m }
   placed-between result (x ∷ xs) o = go (isLess (orderItems pool x result)) refl (placed-between result xs (o .1))
     where
       go : (t : Bool) → isLess (orderItems pool x result) ≡ t → Divides result xs (placed pool result xs)
@@ -52,7 +52,7 @@ module _ (pool : List ℕ) where
         front = x ∷ b .front;
         back = b .back;
         parts = ap (λ (l : List ItemWords). x ∷ l) (b .parts);
-        joined = ap (λ (l : List ItemWords). x ∷ l) (b .joined);
+        together = ap (λ (l : List ItemWords). x ∷ l) (b .together);
         before = first;
         behind = b .behind;
       }
@@ -60,7 +60,7 @@ module _ (pool : List ℕ) where
           first : (y : ItemWords) → (y ≡ x) ⊎ Among y (b .front) → isLess (orderItems pool y result) ≡ true
           first y (inl s) = rw s e
           first y (inr m) = b .before y m
-      go false e b = record { front = []; back = x ∷ xs; parts = refl; joined = refl; before = λ y m. absurd m; behind = later }
+      go false e b = record { front = []; back = x ∷ xs; parts = refl; together = refl; before = λ y m. absurd m; behind = later }
         where
           least : K result ≤ K x
           least = ltb-false (K x) (K result) (sym (below x result) ∙ e)
@@ -68,6 +68,20 @@ module _ (pool : List ℕ) where
           later : (y : ItemWords) → (y ≡ x) ⊎ Among y xs → isLess (orderItems pool y result) ≡ false
           later y (inl s) = rw s e
           later y (inr m) = below y result ∙ le-ltb (K y) (K result) (omega (arith, o .0 y m, least))
+
+  -- an item stands in a list, and another behind it
+  abbrev pub StandsBefore : ItemWords → ItemWords → List ItemWords → Type 0
+  StandsBefore x y whole = (front : List ItemWords) × (back : List ItemWords) × (whole ≡ front ++ (x ∷ back)) × Among y back
+
+  -- what is not below the one more stands behind it
+  pub stands-before : (result : ItemWords) (others whole : List ItemWords) → Divides result others whole → (y : ItemWords) → Among y others
+      → isLess (orderItems pool y result) ≡ false → StandsBefore result y whole
+  stands-before result others whole d y m e = (d .front, d .back, d .together, go (d .front) (d .before) (rw (d .parts) at m))
+    where
+      go : (front : List ItemWords) → ((z : ItemWords) → Among z front → isLess (orderItems pool z result) ≡ true) → Among y (front ++ d .back) → Among y (d .back)
+      go [] f n = n
+      go (z ∷ front) f (inl s) = absurd (true≢false (sym (f y (inl s)) ∙ e))
+      go (z ∷ front) f (inr n) = go front (λ w k. f w (inr k)) n
 
   -- before items that are not below it an item goes first
   placed-first : (result : ItemWords) (its : List ItemWords) → ((y : ItemWords) → Among y its → K result ≤ K y) → placed pool result its ≡ result ∷ its

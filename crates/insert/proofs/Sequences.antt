@@ -1,67 +1,55 @@
 -- Insertions one after the other (02 §10), each law stated once: of plain items the order does not matter, on lists and on the words that calls
--- leave; of calls that follow one another the room alone can be refused. Assumes nothing.
-use Prim.Native.Nat.{ℕ, suc, _+_, _/_, _≤_}
+-- leave; others of one range stand in order of arrival; of calls that follow one another the room alone can be refused. Assumes nothing.
+use Prim.Native.Nat.{ℕ, _+_, _/_, _≤_}
 use mathlib.Core.Path.{_≡_, refl, sym, ap, _∙_}
-use mathlib.Core.Bool.{Bool, true, false, cond, _||_}
+use mathlib.Core.Bool.{Bool, true, false, cond, _||_, _&&_}
 use mathlib.Core.Logic.{_⊎_, inl, inr}
-use mathlib.Core.List.{List, [], _∷_, _++_, map}
+use mathlib.Core.List.{List, [], _∷_, map}
 use native.Mathlib.Omega.{arith}
 use lib.ListN.{length, length-map}
 use lib.Dec.{ltb}
+use Rattle.key_order.specs.declared.Ordering.the-variants.{Equal}
 use Rattle.query_item.specs.declared.ItemWords.{ItemWords}
 use Rattle.query_item.specs.Items.{itemSize, itemsFrom, shown}
-use Rattle.intervals.proofs.Laws.{All}
+use Rattle.intervals.proofs.Laws.{All, Reordered, reordered-two, reordered-by, length-reordered}
 use Rattle.item_check.specs.Checks.{Answer, answered, refused, accepted, mostItems, uprightFault}
 use Rattle.item_lists.specs.Written.{passes}
-use Rattle.insert_order.specs.Order.{plain}
+use Rattle.insert_order.specs.Order.{orderItems, plain, sameItem}
 use Rattle.insert_order.specs.Refusals.{orderedVerdict}
+use Rattle.insert_merge.specs.Merge.{mergedWith}
 use Rattle.insert.specs.Insertion.{inserted}
-use Rattle.insert.specs.Answers.{laid, wordsBy, listAfter, insertAnswer, insertWords}
-use Rattle.insert.specs.Sequence.{insertedAll, nextAnswer, nextWords, insertAllAnswer, insertAllWords, Exchanged, kept, swapped, behind, again}
+use Rattle.insert.specs.Answers.{insertAnswer, insertWords}
+use Rattle.insert.specs.Sequence.{insertedAll, nextAnswer, nextWords, insertAllAnswer, insertAllWords}
 use Rattle.insert.proofs.Written.{length-items}
 use Rattle.insert.proofs.Tails.{length-staying, length-inserted}
-use Rattle.insert.proofs.Laws.{insert-accepted, insert-either, insert-shown}
+use Rattle.insert.proofs.Placed.{StandsBefore}
+use Rattle.insert.proofs.Laws.{insert-accepted, insert-arrival, insert-either, insert-shown}
 use Rattle.insert.proofs.Called.{room-enough, Ready, ready-answer, called-list, called-item, called-items, called-size, called-ready}
 
 module _ (pool : List ℕ) where
   -- ---- what is meant
 
-  -- one item alone is the call with it, answered or refused
+  -- where the first call answers, the others go on from the words and the count that it leaves
 
-  pub single-answer : (ws : List ℕ) (count : ℕ) (new : ItemWords) → insertAllAnswer pool ws count (new ∷ []) ≡ insertAnswer pool ws count new
-  unfolding insertAllAnswer
-  single-answer ws count new = go (insertAnswer pool ws count new)
-    where
-      go : (r : Answer ℕ) → nextAnswer r (λ n. answered n) ≡ r
-      go (answered n) = refl
-      go (refused a b c) = refl
+  module _ (ws : List ℕ) (count : ℕ) (new : ItemWords) (news : List ItemWords) (k : ℕ) (e : insertAnswer pool ws count new ≡ answered k) where
+    pub more-answer : insertAllAnswer pool ws count (new ∷ news) ≡ insertAllAnswer pool (insertWords pool ws count new) k news
+    unfolding insertAllAnswer
+    more-answer = ap (λ (r : Answer ℕ). nextAnswer r (λ n. insertAllAnswer pool (insertWords pool ws count new) n news)) e
 
-  pub single-words : (ws : List ℕ) (count : ℕ) (new : ItemWords) → insertAllWords pool ws count (new ∷ []) ≡ insertWords pool ws count new
-  unfolding insertAllWords
-  single-words ws count new = go (insertAnswer pool ws count new)
-    where
-      go : (r : Answer ℕ) → nextWords r ws (λ n. wordsBy r ws (laid ws count (listAfter pool ws count new))) ≡ wordsBy r ws (laid ws count (listAfter pool ws count new))
-      go (answered n) = refl
-      go (refused a b c) = refl
+    pub more-words : insertAllWords pool ws count (new ∷ news) ≡ insertAllWords pool (insertWords pool ws count new) k news
+    unfolding insertAllWords
+    more-words = ap (λ (r : Answer ℕ). nextWords r ws (λ n. insertAllWords pool (insertWords pool ws count new) n news)) e
 
-  -- any item may be brought to the front, and the others keep their order: front by front, exchanges give every order
-  pub exchanged-front : (before : List ItemWords) (x : ItemWords) (after : List ItemWords) → Exchanged (before ++ (x ∷ after)) (x ∷ (before ++ after))
-  exchanged-front [] x after = kept (x ∷ after)
-  exchanged-front (b ∷ before) x after = again (behind b (exchanged-front before x after)) (swapped b x (before ++ after))
+  -- where it refuses, that is the answer, and the words stay
 
-  -- they gain no item, and lose none
+  module _ (ws : List ℕ) (count : ℕ) (new : ItemWords) (news : List ItemWords) (a b c : ℕ) (e : insertAnswer pool ws count new ≡ refused a b c) where
+    pub end-answer : insertAllAnswer pool ws count (new ∷ news) ≡ refused a b c
+    unfolding insertAllAnswer
+    end-answer = ap (λ (r : Answer ℕ). nextAnswer r (λ n. insertAllAnswer pool (insertWords pool ws count new) n news)) e
 
-  pub exchanged-all : (P : ItemWords → Type 0) {xs ys : List ItemWords} → Exchanged xs ys → All P xs → All P ys
-  exchanged-all P (kept news) f = f
-  exchanged-all P (swapped x y news) f = (f .1 .0, (f .0, f .1 .1))
-  exchanged-all P (behind x r) f = (f .0, exchanged-all P r (f .1))
-  exchanged-all P (again r s) f = exchanged-all P s (exchanged-all P r f)
-
-  pub exchanged-length : {xs ys : List ItemWords} → Exchanged xs ys → length xs ≡ length ys
-  exchanged-length (kept news) = refl
-  exchanged-length (swapped x y news) = refl
-  exchanged-length (behind x r) = ap suc (exchanged-length r)
-  exchanged-length (again r s) = exchanged-length r ∙ exchanged-length s
+    pub end-words : insertAllWords pool ws count (new ∷ news) ≡ ws
+    unfolding insertAllWords
+    end-words = ap (λ (r : Answer ℕ). nextWords r ws (λ n. insertAllWords pool (insertWords pool ws count new) n news)) e
 
   -- ---- on lists
 
@@ -77,17 +65,36 @@ module _ (pool : List ℕ) where
   all-shown [] A B e = e
   all-shown (new ∷ news) A B e = all-shown news (inserted pool new A) (inserted pool new B) (insert-shown pool new new A B refl e)
 
+  -- plain items that pass the checks
+  abbrev Insertable : List ItemWords → Type 0
+  Insertable news = All IsPlain news × All IsUpright news
+
+  -- inserted into any accepted list they give the same
+  abbrev Same : List ItemWords → List ItemWords → Type 0
+  Same xs ys = (its : List ItemWords) → orderedVerdict pool its ≡ accepted → map (shown pool) (insertedAll pool xs its) ≡ map (shown pool) (insertedAll pool ys its)
+
   -- 02 §10.1: any number of plain upright items may be inserted in any order: the lists are the same by bytes
-  pub inserted-exchanged : (its : List ItemWords) {xs ys : List ItemWords} → Exchanged xs ys → orderedVerdict pool its ≡ accepted → All IsPlain xs → All IsUpright xs
-      → map (shown pool) (insertedAll pool xs its) ≡ map (shown pool) (insertedAll pool ys its)
+  pub inserted-reordered : (xs ys : List ItemWords) → Reordered xs ys → All IsPlain xs → All IsUpright xs → Same xs ys
   unfolding insertedAll
-  inserted-exchanged its (kept news) e p u = refl
-  inserted-exchanged its (swapped x y news) e p u =
-      all-shown news (inserted pool y (inserted pool x its)) (inserted pool x (inserted pool y its))
-      (insert-either pool its x y e (u .0) (u .1 .0) (p .0) (p .1 .0))
-  inserted-exchanged its (behind x r) e p u = inserted-exchanged (inserted pool x its) r (insert-accepted pool x its e (u .0)) (p .1) (u .1)
-  inserted-exchanged its (again r s) e p u =
-      inserted-exchanged its r e p u ∙ inserted-exchanged its s e (exchanged-all IsPlain r p) (exchanged-all IsUpright r u)
+  inserted-reordered xs ys r p u = reordered-by (λ A B. Insertable A → Insertable B × Same A B) same exchanged behind further xs ys r (p, u) .1
+    where
+      same : (A : List ItemWords) → Insertable A → Insertable A × Same A A
+      same A h = (h, λ its e. refl)
+
+      exchanged : (x y : ItemWords) (A : List ItemWords) → Insertable (x ∷ y ∷ A) → Insertable (y ∷ x ∷ A) × Same (x ∷ y ∷ A) (y ∷ x ∷ A)
+      exchanged x y A ((px, (py, ps)), (ux, (uy, us))) = (
+        ((py, (px, ps)), (uy, (ux, us))),
+        λ its e. all-shown A (inserted pool y (inserted pool x its)) (inserted pool x (inserted pool y its)) (insert-either pool its x y e ux uy px py),
+      )
+
+      behind : (x : ItemWords) (A B : List ItemWords) → (Insertable A → Insertable B × Same A B) → Insertable (x ∷ A) → Insertable (x ∷ B) × Same (x ∷ A) (x ∷ B)
+      behind x A B f ((px, ps), (ux, us)) =
+          let g = f (ps, us) in
+          (((px, g .0 .0), (ux, g .0 .1)), λ its e. g .1 (inserted pool x its) (insert-accepted pool x its e ux))
+
+      further : (A B C : List ItemWords) → (Insertable A → Insertable B × Same A B) → (Insertable B → Insertable C × Same B C)
+          → Insertable A → Insertable C × Same A C
+      further A B C f g h = let a = f h in let b = g (a .0) in (b .0, λ its e. a .1 its e ∙ b .1 its e)
 
   -- ---- calls that answer
 
@@ -114,7 +121,7 @@ module _ (pool : List ℕ) where
   all-items ws count (new ∷ news) n e =
       let next = insertWords pool ws count new in
       let b = begun ws count new news n e in
-      ap (λ (r : Answer ℕ). itemsFrom (nextWords r ws (λ k. insertAllWords pool next k news)) 0 n) (b .first)
+      ap (λ (l : List ℕ). itemsFrom l 0 n) (more-words ws count new news (b .many) (b .first))
       ∙ all-items next (b .many) news n (b .others)
       ∙ ap (insertedAll pool news) (called-items pool ws count new (b .many) (b .first))
 
@@ -135,28 +142,28 @@ module _ (pool : List ℕ) where
     abbrev pub leftBy : List ItemWords → ℕ → List ItemWords
     leftBy news n = itemsFrom (insertAllWords pool ws count news) 0 n
 
-    listed : (new : ItemWords) (news : List ItemWords) (n : ℕ) → insertAllAnswer pool ws count (new ∷ news) ≡ answered n → orderedVerdict pool its ≡ accepted
-    listed new news n e = let b = begun ws count new news n e in called-list pool ws count new (b .many) (b .first) .listed
+    list-passes : (new : ItemWords) (news : List ItemWords) (n : ℕ) → insertAllAnswer pool ws count (new ∷ news) ≡ answered n → orderedVerdict pool its ≡ accepted
+    list-passes new news n e = let b = begun ws count new news n e in called-list pool ws count new (b .many) (b .first) .listed
 
-    lists-same : (xs ys : List ItemWords) → Exchanged xs ys → All IsPlain xs → (m : ℕ) → insertAllAnswer pool ws count xs ≡ answered m
+    lists-same : (xs ys : List ItemWords) → Reordered xs ys → All IsPlain xs → (m : ℕ) → insertAllAnswer pool ws count xs ≡ answered m
         → map (shown pool) (insertedAll pool xs its) ≡ map (shown pool) (insertedAll pool ys its)
     lists-same [] [] r p m e = refl
-    lists-same [] (y ∷ ys) r p m e = absurd (omega (arith, exchanged-length r))
-    lists-same (x ∷ xs) ys r p m e = inserted-exchanged its r (listed x xs m e) p (all-upright ws count (x ∷ xs) m e)
+    lists-same [] (y ∷ ys) r p m e = absurd (omega (arith, length-reordered [] (y ∷ ys) r))
+    lists-same (x ∷ xs) ys r p m e = inserted-reordered (x ∷ xs) ys r p (all-upright ws count (x ∷ xs) m e) its (list-passes x xs m e)
 
     -- 02 §10.1: calls with plain items in one order, and with these in another, that answer leave the same items by bytes
-    pub insert-exchanged : {xs ys : List ItemWords} (m n : ℕ) → Exchanged xs ys → All IsPlain xs → insertAllAnswer pool ws count xs ≡ answered m
+    pub insert-reordered : (xs ys : List ItemWords) (m n : ℕ) → Reordered xs ys → All IsPlain xs → insertAllAnswer pool ws count xs ≡ answered m
         → insertAllAnswer pool ws count ys ≡ answered n → map (shown pool) (leftBy xs m) ≡ map (shown pool) (leftBy ys n)
-    insert-exchanged {xs} {ys} m n r p e f =
+    insert-reordered xs ys m n r p e f =
         ap (map (shown pool)) (all-items ws count xs m e) ∙ lists-same xs ys r p m e ∙ ap (map (shown pool)) (sym (all-items ws count ys n f))
 
     -- and as many
-    pub exchanged-count : {xs ys : List ItemWords} (m n : ℕ) → Exchanged xs ys → All IsPlain xs → insertAllAnswer pool ws count xs ≡ answered m
+    pub reordered-count : (xs ys : List ItemWords) (m n : ℕ) → Reordered xs ys → All IsPlain xs → insertAllAnswer pool ws count xs ≡ answered m
         → insertAllAnswer pool ws count ys ≡ answered n → m ≡ n
-    exchanged-count {xs} {ys} m n r p e f =
+    reordered-count xs ys m n r p e f =
         sym (length-items (insertAllWords pool ws count xs) 0 m)
         ∙ sym (length-map (leftBy xs m) (shown pool))
-        ∙ ap length (insert-exchanged m n r p e f)
+        ∙ ap length (insert-reordered xs ys m n r p e f)
         ∙ length-map (leftBy ys n) (shown pool)
         ∙ length-items (insertAllWords pool ws count ys) 0 n
 
@@ -165,7 +172,19 @@ module _ (pool : List ℕ) where
         → insertAllAnswer pool ws count (y ∷ x ∷ []) ≡ answered n
         → (m ≡ n) × (map (shown pool) (leftBy (x ∷ y ∷ []) m) ≡ map (shown pool) (leftBy (y ∷ x ∷ []) n))
     insert-either-order x y m n p q e f =
-        (exchanged-count m n (swapped x y []) (p, (q, tt)) e f, insert-exchanged m n (swapped x y []) (p, (q, tt)) e f)
+        let xs = x ∷ y ∷ [] in
+        let ys = y ∷ x ∷ [] in
+        (reordered-count xs ys m n (reordered-two x y) (p, (q, tt)) e f, insert-reordered xs ys m n (reordered-two x y) (p, (q, tt)) e f)
+
+    -- 02 §10.2: what two calls that answer make of items of one range, as `insert-arrival` has them, stands in order of arrival: the later first
+    pub arrival-order : (x y : ItemWords) (n : ℕ) → insertAllAnswer pool ws count (x ∷ y ∷ []) ≡ answered n
+        → sameItem pool y (mergedWith pool x x its) ≡ false → plain y && plain (mergedWith pool x x its) ≡ false
+        → orderItems pool (mergedWith pool x x its) (mergedWith pool y y (inserted pool x its)) ≡ Equal
+        → StandsBefore pool (mergedWith pool y y (inserted pool x its)) (mergedWith pool x x its) (leftBy (x ∷ y ∷ []) n)
+    unfolding insertedAll
+    arrival-order x y n e d w o =
+        let news = x ∷ y ∷ [] in
+        rw (all-items ws count news n e) (insert-arrival pool its x y (list-passes x (y ∷ []) n e) (all-upright ws count news n e .0) d w o)
 
   -- ---- the room of calls
 
@@ -182,15 +201,10 @@ module _ (pool : List ℕ) where
       go true e = inr e
       go false e = inl e
 
-  module _ (ws : List ℕ) (count : ℕ) (new : ItemWords) (news : List ItemWords) (k : ℕ) (e : insertAnswer pool ws count new ≡ answered k) where
-    -- the calls go on
-    more-answer : insertAllAnswer pool ws count (new ∷ news) ≡ insertAllAnswer pool (insertWords pool ws count new) k news
-    unfolding insertAllAnswer
-    more-answer = ap (λ (r : Answer ℕ). nextAnswer r (λ n. insertAllAnswer pool (insertWords pool ws count new) n news)) e
-
-    more-items : insertedAll pool news (itemsFrom (insertWords pool ws count new) 0 k) ≡ insertedAll pool (new ∷ news) (itemsFrom ws 0 count)
-    unfolding insertedAll
-    more-items = ap (insertedAll pool news) (called-items pool ws count new k e)
+  more-items : (ws : List ℕ) (count : ℕ) (new : ItemWords) (news : List ItemWords) (k : ℕ) → insertAnswer pool ws count new ≡ answered k
+      → insertedAll pool news (itemsFrom (insertWords pool ws count new) 0 k) ≡ insertedAll pool (new ∷ news) (itemsFrom ws 0 count)
+  unfolding insertedAll
+  more-items ws count new news k e = ap (insertedAll pool news) (called-items pool ws count new k e)
 
   -- calls answer how many items there are then, or 6
   abbrev pub RoomDecides : List ℕ → ℕ → List ItemWords → Type 0
@@ -213,7 +227,7 @@ module _ (pool : List ℕ) where
       go : (insertAnswer pool ws count new ≡ answered n) ⊎ (insertAnswer pool ws count new ≡ refused 6 0 0)
           → ((k : ℕ) → Ready pool (insertWords pool ws count new) k → RoomDecides (insertWords pool ws count new) k news) → RoomDecides ws count (new ∷ news)
       go (inl e) f = rest e (f n (called-ready pool ws count new n e))
-      go (inr e) f = inr (ap (λ (r : Answer ℕ). nextAnswer r (λ k. insertAllAnswer pool (insertWords pool ws count new) k news)) e)
+      go (inr e) f = inr (end-answer ws count new news 6 0 0 e)
 
   -- with a place for each of them none is
   pub all-enough : (ws : List ℕ) (count : ℕ) (news : List ItemWords) → Ready pool ws count → All IsUpright news

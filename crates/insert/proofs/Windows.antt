@@ -24,7 +24,7 @@ use Rattle.insert_merge.specs.declared.Fate.{Fate}
 use Rattle.insert_merge.specs.declared.Fate.the-variants.{Replaced, Stays, Merges}
 use Rattle.insert_merge.specs.Merge.{fateOf, keepBy, staying, mergeBy, mergedWith, isStaying}
 use Rattle.insert_merge.proofs.Merged.{merged-none, ends-ranks, ranks-stay}
-use Rattle.insert_merge.proofs.Staying.{stays-not, staying-all}
+use Rattle.insert_merge.proofs.Staying.{merges-gone, staying-all}
 use Rattle.insert.specs.Passes.{Ascending, Below, Stay, Asked, keepsPlace, firstChanged, staysAt}
 use Rattle.insert.proofs.Written.{length-items}
 
@@ -216,7 +216,7 @@ module _ (pool : List ℕ) (new : ItemWords) where
     stay-whole i n f = staying-all pool new (itemsFrom ws i n) (stay-among i n f)
 
     stay-alone : (cur : ItemWords) (i n : ℕ) → Stay pool ws new i (i + n) → mergedWith pool new cur (itemsFrom ws i n) ≡ cur
-    stay-alone cur i n f = merged-none pool new cur (itemsFrom ws i n) (λ x m. stays-not pool new x (stay-among i n f x m))
+    stay-alone cur i n f = merged-none pool new cur (itemsFrom ws i n) (λ x m e. merges-gone pool new x e (stay-among i n f x m))
 
     module _ (count from to : ℕ) (v : Asked pool ws count new from to) where
       parts : itemsFrom ws 0 count ≡ itemsFrom ws 0 from ++ (itemsFrom ws from (to - from) ++ itemsFrom ws to (count - to))

@@ -1,4 +1,4 @@
--- Insertions one after the other, as callers make them, and the order in which they come. Definitions only. Assumes nothing.
+-- Insertions one after the other, as callers make them. Definitions only. Assumes nothing.
 use Prim.Native.Nat.{ℕ}
 use mathlib.Core.List.{List, [], _∷_}
 use Rattle.query_item.specs.declared.ItemWords.{ItemWords}
@@ -30,10 +30,3 @@ unfoldable pub insertAllWords : List ℕ → List ℕ → ℕ → List ItemWords
 insertAllWords pool ws count [] = ws
 insertAllWords pool ws count (new ∷ news) =
     nextWords (insertAnswer pool ws count new) ws (λ n. insertAllWords pool (insertWords pool ws count new) n news)
-
--- 02 §10.1: whichever goes first: neighbours exchanged, any number of times, which gives every order of some items
-pub data Exchanged : List ItemWords → List ItemWords → Type 0 where
-  kept : (news : List ItemWords) → Exchanged news news
-  swapped : (x y : ItemWords) (news : List ItemWords) → Exchanged (x ∷ y ∷ news) (y ∷ x ∷ news)
-  behind : (x : ItemWords) {xs ys : List ItemWords} → Exchanged xs ys → Exchanged (x ∷ xs) (x ∷ ys)
-  again : {xs ys zs : List ItemWords} → Exchanged xs ys → Exchanged ys zs → Exchanged xs zs

@@ -3,3 +3,4 @@ pub mod Merged
 pub mod Staying
 pub mod Reach
 pub mod Converted
+mod Examples

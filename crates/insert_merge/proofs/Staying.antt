@@ -1,13 +1,15 @@
 -- What stays of a list beside a new item, beside two of them, and what then merges. Assumes nothing.
-use Prim.Native.Nat.{ℕ}
+use Prim.Native.Nat.{ℕ, _≤_}
 use mathlib.Core.Path.{_≡_, refl, sym, ap, ap₂, _∙_}
 use mathlib.Core.Logic.{_⊎_, inl, inr}
 use mathlib.Core.List.{List, [], _∷_, map}
 use native.Mathlib.Omega.{arith}
 use lib.ListN.{length}
+use Rattle.key_order.proofs.Line.{size}
 use Rattle.query_item.specs.declared.ItemWords.{ItemWords}
 use Rattle.query_item.specs.Items.{shown}
-use Rattle.insert_order.proofs.Ordered.{Among, Pairwise}
+use Rattle.insert_order.proofs.Ranked.{itemRank}
+use Rattle.insert_order.proofs.Ordered.{Among, Pairwise, Sorted}
 use Rattle.insert_merge.specs.declared.Fate.{Fate}
 use Rattle.insert_merge.specs.declared.Fate.the-variants.{Replaced, Stays, Merges}
 use Rattle.insert_merge.specs.Merge.{fateOf, keepBy, staying, mergeBy, mergedWith}
@@ -23,9 +25,6 @@ module _ (pool : List ℕ) where
 
   pub merges-gone : (new it : ItemWords) → fateOf pool new it ≡ Merges → Gone new it
   merges-gone new it e s = let z : _≡_ {A = ℕ} 0 1 = cc in omega arith
-
-  pub stays-not : (new it : ItemWords) → fateOf pool new it ≡ Stays → fateOf pool new it ≡ Merges → ⊥
-  stays-not new it s e = merges-gone new it e s
 
   pub stays-or-gone : (new it : ItemWords) → (fateOf pool new it ≡ Stays) ⊎ Gone new it
   stays-or-gone new it = go (fateOf pool new it) refl
@@ -82,6 +81,9 @@ module _ (pool : List ℕ) where
       go Replaced r = r
       go Stays r = (λ y m. o .0 y (among-staying new xs y m .0), r)
       go Merges r = r
+
+  pub staying-sorted : (new : ItemWords) (its : List ItemWords) → Sorted pool its → Sorted pool (staying pool new its)
+  staying-sorted new its o = staying-pairwise (λ x y. itemRank (size pool) pool x ≤ itemRank (size pool) pool y) new its o
 
   -- what stays beside two items does not depend on which is asked first
   pub staying-comm : (x y : ItemWords) (its : List ItemWords) → staying pool y (staying pool x its) ≡ staying pool x (staying pool y its)

@@ -146,8 +146,14 @@ module _ (pool ws : List ℕ) (count : ℕ) (new : ItemWords) (e : inputVerdict 
   past-buffer : andThen (orderedVerdict pool (itemsFrom ws 0 count)) (faultAt (uprightFault pool new) 1 0) ≡ accepted
   past-buffer = accepts (bufferVerdict ws count) _ .0 past-pool .1
 
+  pub input-pool : poolVerdict pool ≡ accepted
+  input-pool = accepts (poolVerdict pool) _ .0 e .0
+
+  pub input-buffer : bufferVerdict ws count ≡ accepted
+  input-buffer = accepts (bufferVerdict ws count) _ .0 past-pool .0
+
   pub input-count : count ≤ length ws / itemSize
-  input-count = go (ltb (length ws / itemSize) count) (ltb mostItems count) refl (accepts (bufferVerdict ws count) _ .0 past-pool .0)
+  input-count = go (ltb (length ws / itemSize) count) (ltb mostItems count) refl input-buffer
     where
       go : (t u : Bool) → ltb (length ws / itemSize) count ≡ t → cond (t || u) (refused 1 0 0) accepted ≡ accepted → count ≤ length ws / itemSize
       go true u p f = absurd (let z : _≡_ {A = ℕ} 0 1 = cc in omega arith)

@@ -1,5 +1,6 @@
 pub mod Laws
 pub mod Lists
+pub mod Reordered
 pub mod Kept
 pub mod Sweeps
 pub mod Pieces
