@@ -146,8 +146,9 @@ uint64_t fernsponge_intersect_many(const uint8_t *pool, size_t pool_length, cons
 
 /* Inserts an item into the list of the first count items of words; *after is how many there are then. Freed words up to the old count become 0,
  * later ones stay. Plain items may be inserted in any order: where there is room for each step, the lists are the same, item by item, by kind,
- * wrapper and key bytes. Offsets may differ where equal keys stand at two places, and so may words past the list. Of a wrapped item and another
- * of the same range the later one stands first; an item that is replaced or merged comes anew. */
+ * wrapper and key bytes. Offsets may differ where equal keys stand at two places, and so may words past the list. A wrapped item and
+ * another of the same range stand in order of arrival, the later one first; the result of an insertion arrives with it, whatever it replaced or
+ * merged with. */
 uint64_t fernsponge_insert_item(const uint8_t *pool, size_t pool_length, uint32_t *words, size_t words_length, size_t count,
                                 const uint32_t item[FERNSPONGE_ITEM_WORDS], uint64_t *after);
 

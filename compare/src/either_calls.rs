@@ -1,6 +1,6 @@
 //! Insertions in either order (02 §10.1): every two plain items into all lists over few keys, and several into longer lists by chance, in two
-//! orders each. The two lists are held against each other, item by item, by kind, wrapper and key bytes; with less room than both orders want,
-//! each is refused exactly where the list would pass it on the way. The order matters where one of two items of one range is wrapped: the
+//! orders each. The two lists are held against each other, item by item, by kind, wrapper and key bytes; with less room than for both items,
+//! an order is refused exactly where the list would pass it on the way. The order matters where one of two items of one range is wrapped: the
 //! later stands first (02 §10.2).
 
 use crate::{

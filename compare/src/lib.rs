@@ -80,8 +80,8 @@ pub struct Size {
     longest: usize,
     /// the keys over which every item is inserted into all lists of three items
     inserted: usize,
-    /// of `few_keys`, those over which every two plain items are inserted into all lists of three items, in either order, and how many wrappers
-    /// these have
+    /// of `few_keys`, those over which every two plain items are inserted into all lists of three items, in either order; and how many wrappers
+    /// the lists' items have, plain among them
     either: &'static [(&'static [usize], u32)],
     /// the most items of all the lists over keys of two bytes that are tried as rate cards
     carded: usize,

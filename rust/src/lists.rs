@@ -155,8 +155,8 @@ pub fn insert_item(
 ///
 /// Plain items may come in any order: two desks that save the same ones have the same list, item by item, by kind, wrapper and key bytes,
 /// whoever goes first, where neither is refused for having more than 2,048 items on the way. Offsets may differ where equal keys stand at two
-/// places of the pool. Of a wrapped item and another of the same range the later one stands first; an item that is replaced or merged comes
-/// anew.
+/// places of the pool. A wrapped item and another of the same range stand in order of arrival, the later one first; the result of an insertion
+/// arrives with it, whatever it replaced or merged with.
 ///
 /// ```
 /// use fernsponge::{insert, Item, Pool, Refusal};

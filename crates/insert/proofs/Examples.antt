@@ -69,6 +69,11 @@ converted-either : (inserted pool (key 0 2) (inserted pool (closed 0 2 2) []) �
 unfolding inserted staying mergedWith merged placed fateOf orderItems sameItem endsBelow compareBoundaries compareKeys compareNumbers
 converted-either = (refl, refl)
 
+-- 02 §10.2: what an insertion makes arrives with it: count [01,03] came after the first [01,03], and before Key 02, which merges with that
+arrives-anew : inserted pool (key 0 4) (inserted pool (closed 1 0 1) (closed 0 0 1 ∷ [])) ≡ closed 0 0 1 ∷ closed 1 0 1 ∷ []
+unfolding inserted staying mergedWith merged placed fateOf orderItems sameItem endsBelow compareBoundaries compareKeys compareNumbers
+arrives-anew = refl
+
 -- RangeFull with a wrapper; Key and RangeAfter of the empty key
 
 abbrev all : ℕ → ItemWords
@@ -90,11 +95,6 @@ one = flat (empty 0)
 
 abbrev spare : List ℕ
 spare = 7 ∷ 7 ∷ 7 ∷ 7 ∷ 7 ∷ 7 ∷ []
-
--- a plain item that merges is put anew, and so arrives anew: count [01,03] came after the first [01,03], and before Key 02
-arrives-anew : inserted pool (key 0 4) (inserted pool (closed 1 0 1) (closed 0 0 1 ∷ [])) ≡ closed 0 0 1 ∷ closed 1 0 1 ∷ []
-unfolding inserted staying mergedWith merged placed fateOf orderItems sameItem endsBelow compareBoundaries compareKeys compareNumbers
-arrives-anew = refl
 
 -- The smallest inputs in which something differs: no key where none is needed, else the empty key alone.
 

@@ -23,13 +23,14 @@ use Rattle.insert_merge.proofs.Merged.{merged-none}
 use Rattle.insert_merge.proofs.Staying.{merges-gone, staying-keeps, staying-all, staying-sorted, staying-shown}
 use Rattle.insert_merge.proofs.Converted.{result-shown}
 use Rattle.insert.specs.Insertion.{placed, inserted}
+use Rattle.insert.specs.Sequence.{StandsBefore}
 use Rattle.insert.specs.Answers.{insertedOf, laid}
 use Rattle.insert.specs.Passes.{firstChanged}
 use Rattle.item_lists.proofs.Read.{items-read}
 use Rattle.insert.proofs.Accepted.{list-inserted}
 use Rattle.insert.proofs.Holding.{holds-inserted}
 use Rattle.insert.proofs.Ordered.{order-inserted}
-use Rattle.insert.proofs.Placed.{Divides, placed-between, StandsBefore, stands-before, placed-among, placed-shown}
+use Rattle.insert.proofs.Placed.{Divides, placed-between, divides-before, placed-before, staying-before, placed-shown}
 use Rattle.insert.proofs.Either.{either-shown}
 
 -- ---- the answer
@@ -70,20 +71,22 @@ unfolding inserted
 insert-between pool new its e =
     placed-between pool (mergedWith pool new new its) (staying pool new its) (staying-sorted pool new its (accepted-sorted pool its e))
 
--- 02 §10.2: one item is inserted and then another. Where what they become covers one range, and the other is not equal to what the first became,
--- nor are both plain, they stand in order of arrival: the later first
-pub insert-arrival : (pool : List ℕ) (its : List ItemWords) (x y : ItemWords) → orderedVerdict pool its ≡ accepted → uprightFault pool x ≡ 0
-    → sameItem pool y (mergedWith pool x x its) ≡ false → plain y && plain (mergedWith pool x x its) ≡ false
-    → orderItems pool (mergedWith pool x x its) (mergedWith pool y y (inserted pool x its)) ≡ Equal
-    → StandsBefore pool (mergedWith pool y y (inserted pool x its)) (mergedWith pool x x its) (inserted pool y (inserted pool x its))
-unfolding inserted fateOf
-insert-arrival pool its x y a u n w e =
-    let first = mergedWith pool x x its in
-    let list = inserted pool x its in
-    stands-before pool (mergedWith pool y y list) (staying pool y list) (inserted pool y list)
-    (insert-between pool y list (insert-accepted pool x its a u)) first
-    (staying-keeps pool y list first (placed-among pool first (staying pool x its) first (inl refl)) (rw (n, w)))
-    (ap isLess e)
+-- 02 §10.2: items stand in order of arrival: what is inserted stands, as what it becomes, before an item of the list that covers the same range,
+-- where the two are not equal and not both plain
+pub insert-arrival : (pool : List ℕ) (new it : ItemWords) (its : List ItemWords) → orderedVerdict pool its ≡ accepted → Among it its
+    → sameItem pool new it ≡ false → plain new && plain it ≡ false → orderItems pool it (mergedWith pool new new its) ≡ Equal
+    → StandsBefore (mergedWith pool new new its) it (inserted pool new its)
+unfolding fateOf
+insert-arrival pool new it its a m n w e =
+    divides-before pool (mergedWith pool new new its) (staying pool new its) (inserted pool new its) (insert-between pool new its a) it
+    (staying-keeps pool new its it m (rw (n, w))) (ap isLess e)
+
+-- 02 §10.2: and an insertion after which both stay keeps the order of two items
+pub insert-keeps : (pool : List ℕ) (new x y : ItemWords) (its : List ItemWords) → fateOf pool new x ≡ Stays → fateOf pool new y ≡ Stays
+    → StandsBefore x y its → StandsBefore x y (inserted pool new its)
+unfolding inserted
+insert-keeps pool new x y its e f s =
+    placed-before pool (mergedWith pool new new its) x y (staying pool new its) (staying-before pool new x y its e f s)
 
 -- 02 §10.1: two plain upright items may be inserted in either order: the lists are the same by bytes
 pub insert-either : (pool : List ℕ) (its : List ItemWords) (x y : ItemWords) → orderedVerdict pool its ≡ accepted → uprightFault pool x ≡ 0

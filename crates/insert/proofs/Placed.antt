@@ -1,5 +1,5 @@
--- Where a result is put: one more in the list, before the first item not below it. Two of different ranks may be put in either order, and
--- what stays beside another item may be looked for before or after. Assumes nothing.
+-- Where a result is put: one more in the list, before the first item not below it. The others keep their order. Two of different ranks may be
+-- put in either order, and what stays beside another item may be looked for before or after. Assumes nothing.
 use Prim.Native.Nat.{ℕ, _≤_, _<_}
 use mathlib.Core.Path.{_≡_, refl, sym, ap, ap₂, _∙_}
 use mathlib.Core.Bool.{Bool, true, false, cond, true≢false}
@@ -16,12 +16,13 @@ use Rattle.query_item.specs.declared.ItemWords.{ItemWords}
 use Rattle.query_item.specs.Items.{Shown, shown}
 use Rattle.insert_order.specs.Order.{orderItems}
 use Rattle.insert_order.proofs.Ranked.{itemRank, order-less, order-shown}
-use Rattle.insert_order.proofs.Ordered.{Among, Sorted}
+use Rattle.insert_order.proofs.Ordered.{Among, among-parts, parts-among, Sorted}
 use Rattle.insert_merge.specs.declared.Fate.{Fate}
 use Rattle.insert_merge.specs.declared.Fate.the-variants.{Replaced, Stays, Merges}
 use Rattle.insert_merge.specs.Merge.{fateOf, keepBy, staying, mergeBy, mergedWith}
-use Rattle.insert_merge.proofs.Staying.{Gone, among-staying}
+use Rattle.insert_merge.proofs.Staying.{Gone, among-staying, staying-keeps}
 use Rattle.insert.specs.Insertion.{placed}
+use Rattle.insert.specs.Sequence.{StandsBefore}
 
 module _ (pool : List ℕ) where
   abbrev K : ItemWords → ℕ
@@ -69,20 +70,6 @@ module _ (pool : List ℕ) where
           later y (inl s) = rw s e
           later y (inr m) = below y result ∙ le-ltb (K y) (K result) (omega (arith, o .0 y m, least))
 
-  -- an item stands in a list, and another behind it
-  abbrev pub StandsBefore : ItemWords → ItemWords → List ItemWords → Type 0
-  StandsBefore x y whole = (front : List ItemWords) × (back : List ItemWords) × (whole ≡ front ++ (x ∷ back)) × Among y back
-
-  -- what is not below the one more stands behind it
-  pub stands-before : (result : ItemWords) (others whole : List ItemWords) → Divides result others whole → (y : ItemWords) → Among y others
-      → isLess (orderItems pool y result) ≡ false → StandsBefore result y whole
-  stands-before result others whole d y m e = (d .front, d .back, d .together, go (d .front) (d .before) (rw (d .parts) at m))
-    where
-      go : (front : List ItemWords) → ((z : ItemWords) → Among z front → isLess (orderItems pool z result) ≡ true) → Among y (front ++ d .back) → Among y (d .back)
-      go [] f n = n
-      go (z ∷ front) f (inl s) = absurd (true≢false (sym (f y (inl s)) ∙ e))
-      go (z ∷ front) f (inr n) = go front (λ w k. f w (inr k)) n
-
   -- before items that are not below it an item goes first
   placed-first : (result : ItemWords) (its : List ItemWords) → ((y : ItemWords) → Among y its → K result ≤ K y) → placed pool result its ≡ result ∷ its
   unfolding placed
@@ -113,6 +100,65 @@ module _ (pool : List ℕ) where
       go true (inr (inl p)) r = inl p
       go true (inr (inr p)) r = inr (r (inr p))
       go false n r = n
+
+  -- ---- which of two stands before the other
+
+  -- an item, and one of those behind it
+  behind-first : (x y : ItemWords) (front its : List ItemWords) → Among y its → StandsBefore x y (front ++ (x ∷ its))
+  behind-first x y front its m = let s = among-parts y its m in (front, s .0, s .1, ap (λ (l : List ItemWords). front ++ (x ∷ l)) (s .2))
+
+  -- one item more at the front
+  more-before : (z x y : ItemWords) (its : List ItemWords) → StandsBefore x y its → StandsBefore x y (z ∷ its)
+  more-before z x y its s = (z ∷ s .0, s .1, s .2, ap (λ (l : List ItemWords). z ∷ l) (s .3))
+
+  -- what is not below a result stands behind it
+  pub divides-before : (result : ItemWords) (others whole : List ItemWords) → Divides result others whole → (y : ItemWords) → Among y others
+      → isLess (orderItems pool y result) ≡ false → StandsBefore result y whole
+  divides-before result others whole d y m e = rw (d .together) (behind-first result y (d .front) (d .back) (go (d .front) (d .before) (rw (d .parts) at m)))
+    where
+      go : (front : List ItemWords) → ((z : ItemWords) → Among z front → isLess (orderItems pool z result) ≡ true) → Among y (front ++ d .back) → Among y (d .back)
+      go [] f n = n
+      go (z ∷ front) f (inl s) = absurd (true≢false (sym (f y (inl s)) ∙ e))
+      go (z ∷ front) f (inr n) = go front (λ w k. f w (inr k)) n
+
+  -- a result that is put keeps the order of the others
+  pub placed-before : (result x y : ItemWords) (its : List ItemWords) → StandsBefore x y its → StandsBefore x y (placed pool result its)
+  unfolding placed
+  placed-before result x y its s = rw (s .3) (go (s .0))
+    where
+      rest : List ItemWords
+      rest = s .1 ++ (y ∷ s .2)
+
+      go : (front : List ItemWords) → StandsBefore x y (placed pool result (front ++ (x ∷ rest)))
+      go [] = at (isLess (orderItems pool x result))
+        where
+          at : (t : Bool) → StandsBefore x y (cond t (x ∷ placed pool result rest) (result ∷ x ∷ rest))
+          at true = behind-first x y [] (placed pool result rest) (placed-among result rest y (inr (parts-among (s .1) y (s .2))))
+          at false = behind-first x y (result ∷ []) rest (parts-among (s .1) y (s .2))
+      go (z ∷ front) = at (isLess (orderItems pool z result)) (go front)
+        where
+          at : (t : Bool) → StandsBefore x y (placed pool result (front ++ (x ∷ rest)))
+              → StandsBefore x y (cond t (z ∷ placed pool result (front ++ (x ∷ rest))) (result ∷ z ∷ (front ++ (x ∷ rest))))
+          at true r = more-before z x y (placed pool result (front ++ (x ∷ rest))) r
+          at false r = behind-first x y (result ∷ z ∷ front) rest (parts-among (s .1) y (s .2))
+
+  -- and so do those that are taken out
+  pub staying-before : (new x y : ItemWords) (its : List ItemWords) → fateOf pool new x ≡ Stays → fateOf pool new y ≡ Stays → StandsBefore x y its
+      → StandsBefore x y (staying pool new its)
+  unfolding staying
+  staying-before new x y its e f s = rw (s .3) (go (s .0))
+    where
+      rest : List ItemWords
+      rest = s .1 ++ (y ∷ s .2)
+
+      go : (front : List ItemWords) → StandsBefore x y (staying pool new (front ++ (x ∷ rest)))
+      go [] = rw e (behind-first x y [] (staying pool new rest) (staying-keeps pool new rest y (parts-among (s .1) y (s .2)) f))
+      go (z ∷ front) = at (fateOf pool new z) (go front)
+        where
+          at : (g : Fate) → StandsBefore x y (staying pool new (front ++ (x ∷ rest))) → StandsBefore x y (keepBy g z (staying pool new (front ++ (x ∷ rest))))
+          at Replaced r = r
+          at Stays r = more-before z x y (staying pool new (front ++ (x ∷ rest))) r
+          at Merges r = r
 
   -- ---- beside another new item
 

@@ -11,19 +11,21 @@ use lib.Dec.{ltb}
 use Rattle.key_order.specs.declared.Ordering.the-variants.{Equal}
 use Rattle.query_item.specs.declared.ItemWords.{ItemWords}
 use Rattle.query_item.specs.Items.{itemSize, itemsFrom, shown}
-use Rattle.intervals.proofs.Laws.{All, Reordered, reordered-two, reordered-by, length-reordered}
+use Rattle.intervals.specs.Lists.{Reordered}
+use Rattle.intervals.proofs.Laws.{All, reordered-two, reordered-by, length-reordered}
 use Rattle.item_check.specs.Checks.{Answer, answered, refused, accepted, mostItems, uprightFault}
 use Rattle.item_lists.specs.Written.{passes}
 use Rattle.insert_order.specs.Order.{orderItems, plain, sameItem}
 use Rattle.insert_order.specs.Refusals.{orderedVerdict}
-use Rattle.insert_merge.specs.Merge.{mergedWith}
+use Rattle.insert_order.proofs.Ordered.{Among}
+use Rattle.insert_merge.specs.declared.Fate.the-variants.{Stays}
+use Rattle.insert_merge.specs.Merge.{fateOf, mergedWith}
 use Rattle.insert.specs.Insertion.{inserted}
 use Rattle.insert.specs.Answers.{insertAnswer, insertWords}
-use Rattle.insert.specs.Sequence.{insertedAll, nextAnswer, nextWords, insertAllAnswer, insertAllWords}
+use Rattle.insert.specs.Sequence.{insertedAll, nextAnswer, nextWords, insertAllAnswer, insertAllWords, StandsBefore}
 use Rattle.insert.proofs.Written.{length-items}
 use Rattle.insert.proofs.Tails.{length-staying, length-inserted}
-use Rattle.insert.proofs.Placed.{StandsBefore}
-use Rattle.insert.proofs.Laws.{insert-accepted, insert-arrival, insert-either, insert-shown}
+use Rattle.insert.proofs.Laws.{insert-accepted, insert-arrival, insert-keeps, insert-either, insert-shown}
 use Rattle.insert.proofs.Called.{room-enough, Ready, ready-answer, called-list, called-item, called-items, called-size, called-ready}
 
 module _ (pool : List ℕ) where
@@ -65,6 +67,16 @@ module _ (pool : List ℕ) where
   all-shown [] A B e = e
   all-shown (new ∷ news) A B e = all-shown news (inserted pool new A) (inserted pool new B) (insert-shown pool new new A B refl e)
 
+  -- an insertion after which both stay
+  abbrev pub LeavesBoth : ItemWords → ItemWords → ItemWords → Type 0
+  LeavesBoth x y new = (fateOf pool new x ≡ Stays) × (fateOf pool new y ≡ Stays)
+
+  all-kept : (news : List ItemWords) (x y : ItemWords) (its : List ItemWords) → All (LeavesBoth x y) news
+      → StandsBefore x y its → StandsBefore x y (insertedAll pool news its)
+  unfolding insertedAll
+  all-kept [] x y its f s = s
+  all-kept (new ∷ news) x y its f s = all-kept news x y (inserted pool new its) (f .1) (insert-keeps pool new x y its (f .0 .0) (f .0 .1) s)
+
   -- plain items that pass the checks
   abbrev Insertable : List ItemWords → Type 0
   Insertable news = All IsPlain news × All IsUpright news
@@ -74,7 +86,8 @@ module _ (pool : List ℕ) where
   Same xs ys = (its : List ItemWords) → orderedVerdict pool its ≡ accepted → map (shown pool) (insertedAll pool xs its) ≡ map (shown pool) (insertedAll pool ys its)
 
   -- 02 §10.1: any number of plain upright items may be inserted in any order: the lists are the same by bytes
-  pub inserted-reordered : (xs ys : List ItemWords) → Reordered xs ys → All IsPlain xs → All IsUpright xs → Same xs ys
+  pub inserted-reordered : (xs ys : List ItemWords) → Reordered xs ys → All IsPlain xs → All IsUpright xs → (its : List ItemWords)
+      → orderedVerdict pool its ≡ accepted → map (shown pool) (insertedAll pool xs its) ≡ map (shown pool) (insertedAll pool ys its)
   unfolding insertedAll
   inserted-reordered xs ys r p u = reordered-by (λ A B. Insertable A → Insertable B × Same A B) same exchanged behind further xs ys r (p, u) .1
     where
@@ -176,15 +189,17 @@ module _ (pool : List ℕ) where
         let ys = y ∷ x ∷ [] in
         (reordered-count xs ys m n (reordered-two x y) (p, (q, tt)) e f, insert-reordered xs ys m n (reordered-two x y) (p, (q, tt)) e f)
 
-    -- 02 §10.2: what two calls that answer make of items of one range, as `insert-arrival` has them, stands in order of arrival: the later first
-    pub arrival-order : (x y : ItemWords) (n : ℕ) → insertAllAnswer pool ws count (x ∷ y ∷ []) ≡ answered n
-        → sameItem pool y (mergedWith pool x x its) ≡ false → plain y && plain (mergedWith pool x x its) ≡ false
-        → orderItems pool (mergedWith pool x x its) (mergedWith pool y y (inserted pool x its)) ≡ Equal
-        → StandsBefore pool (mergedWith pool y y (inserted pool x its)) (mergedWith pool x x its) (leftBy (x ∷ y ∷ []) n)
-    unfolding insertedAll
-    arrival-order x y n e d w o =
-        let news = x ∷ y ∷ [] in
-        rw (all-items ws count news n e) (insert-arrival pool its x y (list-passes x (y ∷ []) n e) (all-upright ws count news n e .0) d w o)
+    -- 02 §10.2: items stand in order of arrival, as `insert-arrival` has it, in what a call that answers leaves
+    pub arrival-order : (new it : ItemWords) (n : ℕ) → insertAnswer pool ws count new ≡ answered n → Among it its → sameItem pool new it ≡ false
+        → plain new && plain it ≡ false → orderItems pool it (mergedWith pool new new its) ≡ Equal
+        → StandsBefore (mergedWith pool new new its) it (itemsFrom (insertWords pool ws count new) 0 n)
+    arrival-order new it n e m d w o =
+        rw (called-items pool ws count new n e) (insert-arrival pool new it its (called-list pool ws count new n e .listed) m d w o)
+
+    -- 02 §10.2: and calls that answer, after which both stay, keep the order of two items
+    pub order-kept : (news : List ItemWords) (x y : ItemWords) (n : ℕ) → insertAllAnswer pool ws count news ≡ answered n
+        → All (LeavesBoth x y) news → StandsBefore x y its → StandsBefore x y (leftBy news n)
+    order-kept news x y n e f s = rw (all-items ws count news n e) (all-kept news x y its f s)
 
   -- ---- the room of calls
 

@@ -1,6 +1,7 @@
--- Insertions one after the other, as callers make them. Definitions only. Assumes nothing.
+-- Insertions one after the other, as callers make them, and which of two items stands before the other. Definitions only. Assumes nothing.
 use Prim.Native.Nat.{ℕ}
-use mathlib.Core.List.{List, [], _∷_}
+use mathlib.Core.Path.{_≡_}
+use mathlib.Core.List.{List, [], _∷_, _++_}
 use Rattle.query_item.specs.declared.ItemWords.{ItemWords}
 use Rattle.item_check.specs.Checks.{Answer, answered, refused}
 use Rattle.insert.specs.Insertion.{inserted}
@@ -30,3 +31,8 @@ unfoldable pub insertAllWords : List ℕ → List ℕ → ℕ → List ItemWords
 insertAllWords pool ws count [] = ws
 insertAllWords pool ws count (new ∷ news) =
     nextWords (insertAnswer pool ws count new) ws (λ n. insertAllWords pool (insertWords pool ws count new) n news)
+
+-- 02 §10.2: items stand in order of arrival: one of a list stands before another
+abbrev pub StandsBefore : ItemWords → ItemWords → List ItemWords → Type 0
+StandsBefore x y its =
+    (front : List ItemWords) × (between : List ItemWords) × (back : List ItemWords) × (its ≡ front ++ (x ∷ (between ++ (y ∷ back))))

@@ -2,7 +2,7 @@
 // and the checks before the room, `insert_merge` what stays of a list and what merges.
 // Definitions: specs/Insertion.antt (the list after insertion), specs/Answers.antt (the room, the words at exit), specs/Sequence.antt (calls one
 // after the other). specs/Passes.antt has what the passes go by. Laws: proofs/Laws.antt; proofs/Called.antt (what a call leaves, the next one
-// accepts), proofs/Sequences.antt (plain items may be inserted in any order, 02 §10.1).
+// accepts), proofs/Sequences.antt (plain items may be inserted in any order, 02 §10.1, others stand in order of arrival, 02 §10.2).
 //
 // The list is checked in linear passes. Then the few items to ask are found by halving, what merges among them, and the tail from the first
 // changed item on is rewritten, each item written once.

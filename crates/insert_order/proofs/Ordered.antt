@@ -4,7 +4,7 @@ use Prim.Native.Nat.{ℕ, zero, suc, _+_, _≤_, _<_}
 use mathlib.Core.Path.{_≡_, refl, sym, ap, _∙_}
 use mathlib.Core.Bool.{Bool, true, false, cond, not, _||_, _&&_}
 use mathlib.Core.Logic.{_⊎_, inl, inr}
-use mathlib.Core.List.{List, [], _∷_}
+use mathlib.Core.List.{List, [], _∷_, _++_}
 use native.Mathlib.Omega.{arith}
 use native.Mathlib.Nat.{le-refl}
 use native.Mathlib.Decide.{decLt}
@@ -23,6 +23,17 @@ use Rattle.insert_order.proofs.Seen.{or-false}
 abbrev pub Among : ItemWords → List ItemWords → Type 0
 Among x [] = ⊥
 Among x (y ∷ ys) = (x ≡ y) ⊎ Among x ys
+
+-- the list is then what stands before it, the item, and what stands behind
+
+pub among-parts : (x : ItemWords) (its : List ItemWords) → Among x its → (before : List ItemWords) × (after : List ItemWords) × (its ≡ before ++ (x ∷ after))
+among-parts x [] m = absurd m
+among-parts x (y ∷ ys) (inl e) = ([], ys, ap (λ (z : ItemWords). z ∷ ys) (sym e))
+among-parts x (y ∷ ys) (inr m) = let s = among-parts x ys m in (y ∷ s .0, s .1, ap (λ (l : List ItemWords). y ∷ l) (s .2))
+
+pub parts-among : (before : List ItemWords) (x : ItemWords) (after : List ItemWords) → Among x (before ++ (x ∷ after))
+parts-among [] x after = inl refl
+parts-among (y ∷ before) x after = inr (parts-among before x after)
 
 -- each item of a list stands so to every later one
 abbrev pub Pairwise : (ItemWords → ItemWords → Type 0) → List ItemWords → Type 0

@@ -3,20 +3,16 @@ use Prim.Native.Nat.{suc}
 use mathlib.Core.Path.{_≡_, refl, ap, _∙_}
 use mathlib.Core.List.{List, [], _∷_, _++_}
 use lib.ListN.{length}
+use Rattle.intervals.specs.Lists.{Reordered}
 use Rattle.intervals.proofs.Lists.{All}
 
 module _ {X : Type 0} where
-  -- the second list is the first in another order: each of its things in turn is taken out of what is left of the first, wherever it stands
-  abbrev pub Reordered : List X → List X → Type 0
-  Reordered A [] = A ≡ []
-  Reordered A (b ∷ B) = (before : List X) × (after : List X) × (A ≡ before ++ (b ∷ after)) × Reordered (before ++ after) B
-
   -- two things, and the other first
   pub reordered-two : (a b : X) → Reordered (a ∷ b ∷ []) (b ∷ a ∷ [])
   reordered-two a b = (a ∷ [], [], refl, ([], [], refl, refl))
 
-  -- what holds of lists in which two neighbours at the front are exchanged, and is kept behind one more thing and from list to list, holds of any
-  -- order
+  -- what holds of a list and itself, and of lists in which the first two things are exchanged, and is kept behind one more thing and from list to
+  -- list, holds of any order
   module _ (R : List X → List X → Type 0) (same : (A : List X) → R A A) (exchanged : (a b : X) (A : List X) → R (a ∷ b ∷ A) (b ∷ a ∷ A))
       (behind : (a : X) (A B : List X) → R A B → R (a ∷ A) (a ∷ B)) (further : (A B C : List X) → R A B → R B C → R A C) where
     taken : (before : List X) (b : X) (after : List X) → R (before ++ (b ∷ after)) (b ∷ (before ++ after))

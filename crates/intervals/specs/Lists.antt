@@ -1,6 +1,7 @@
--- What two lists share, and what one keeps without the other, given what two of their things share and what one thing keeps; and those of a
--- list that pass a test.
+-- What two lists share, and what one keeps without the other, given what two of their things share and what one thing keeps; those of a
+-- list that pass a test; and a list in another order.
 -- The things are of any type. Definitions only. Assumes nothing.
+use mathlib.Core.Path.{_≡_}
 use mathlib.Core.Bool.{Bool, cond}
 use mathlib.Core.List.{List, [], _∷_, _++_}
 
@@ -28,3 +29,9 @@ withoutOf cut A (b ∷ B) = withoutOf cut (cutsOf cut A b) B
 unfoldable pub keep : {X : Type 0} → (X → Bool) → List X → List X
 keep f [] = []
 keep f (a ∷ A) = cond (f a) (a ∷ keep f A) (keep f A)
+
+-- 02 §10.1: the second list is the first in another order: each of its things in turn is taken out of what is left of the first, wherever it
+-- stands
+abbrev pub Reordered : {X : Type 0} → List X → List X → Type 0
+Reordered A [] = A ≡ []
+Reordered {X} A (b ∷ B) = (before : List X) × (after : List X) × (A ≡ before ++ (b ∷ after)) × Reordered (before ++ after) B

@@ -11,4 +11,5 @@ pub use Rattle.item_check.proofs.Scans.{items-end, items-more, fault-pa
 -- its items stand one above another, and at most one of them holds a key
 pub use Rattle.item_check.proofs.Strict.{Strict, later-starts, later-ends, holds-once}
 -- of lists of anything: what holds of all that is in one, and one in another order
-pub use Rattle.intervals.proofs.Laws.{All, Reordered, reordered-by, length-reordered, all-reordered}
+pub use Rattle.intervals.specs.Lists.{Reordered}
+pub use Rattle.intervals.proofs.Laws.{All, reordered-by, length-reordered, all-reordered}
