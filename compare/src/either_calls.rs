@@ -21,6 +21,7 @@ pub fn run(size: &Size) -> Vec<Row> {
     let mut rows = Rows {
         either: Row::new("insert_item, two plain items in either order"),
         scarce: Row::new("insert_item, two plain items where room is scarce"),
+        one_only: Row::again("insert_item, room in one of two orders only"),
         several: Row::new("insert_item, several plain items in another order"),
         arrival: Row::new("insert_item, two items of one range, not both plain"),
     };
@@ -33,12 +34,20 @@ pub fn run(size: &Size) -> Vec<Row> {
     for _ in 0..size.random / 8 {
         rows.random(random);
     }
-    vec![rows.either, rows.scarce, rows.several, rows.arrival]
+    vec![
+        rows.either,
+        rows.scarce,
+        rows.one_only,
+        rows.several,
+        rows.arrival,
+    ]
 }
 
 struct Rows {
     either: Row,
     scarce: Row,
+    /// of these, the cases in which the order decides; there are some, or one order was held against itself
+    one_only: Row,
     several: Row,
     arrival: Row,
 }
@@ -96,10 +105,13 @@ impl Rows {
                 true => Err(6),
                 false => one.clone(),
             });
-            self.scarce.hold(
-                input(room),
-                Against::paper(both(room).map(|left| left.0), expected),
-            );
+            let left = both(room).map(|left| left.0);
+            if expected[0].is_ok() != expected[1].is_ok() {
+                self.one_only
+                    .hold(input(room), Against::paper(left.clone(), expected.clone()));
+            }
+            self.scarce
+                .hold(input(room), Against::paper(left, expected));
         }
         let answers = one.is_ok();
         self.either.hold(
