@@ -125,6 +125,8 @@ link-c: lib
 	target/card | diff - c/card.stdout
 	cc -std=c11 -Wall -Wextra -Wpedantic -Werror -Itarget/include c/stored.c target/lib/libfernsponge.a -o target/stored
 	target/stored | diff - c/stored.stdout
+	cc -std=c11 -Wall -Wextra -Wpedantic -Werror -Itarget/include c/collect.c target/lib/libfernsponge.a -o target/collect
+	target/collect | diff - c/collect.stdout
 
 link-rust: lib
 	$(CARGO) test --quiet --offline --manifest-path rust/Cargo.toml

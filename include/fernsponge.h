@@ -26,7 +26,7 @@
  *
  * Side 0 is ours, 1 theirs; position items, intervals, and a card's items and amounts are side 0, proved positions, spans, windows of a plan, an
  * item to insert and the keys of an invoice side 1. The index is that of the item, amount, key, pair or position; a wrong stored total has the
- * number of pairs; the pool, the shape of a list, a card or an invoice, want of room, and refusals 15 and 16 have index 0.
+ * number of pairs; a pool, the shape of a list, a card or an invoice, want of room, and refusals 15 and 16 have index 0.
  *
  * Keys stand in one pool of bytes, and an item names its keys by offset and length. An item is six words: code, wrapper, start offset, start
  * length, end offset, end length; the words of a key that its kind has not are 0. An item that may be missing is seven words: 1 and its six, or
@@ -151,6 +151,22 @@ uint64_t fernsponge_intersect_many(const uint8_t *pool, size_t pool_length, cons
  * merged with. */
 uint64_t fernsponge_insert_item(const uint8_t *pool, size_t pool_length, uint32_t *words, size_t words_length, size_t count,
                                 const uint32_t item[FERNSPONGE_ITEM_WORDS], uint64_t *after);
+
+/* Collects a pool: the keys that the items of two lists name go to the front of fresh, and the items' offsets are rewritten, so that both lists
+ * stand over fresh and every key reads as before; *used is how many bytes the keys have there. Equal keys stand there once, wherever they stood,
+ * one after another in order of first use: ours before theirs, item by item, start before end. The empty key gets offset 0. Nothing else of an
+ * item changes, and bytes of fresh past the keys stay: keys of later insertions may be written there. The old pool is only read; other lists and
+ * the keys of an invoice still stand over it. Where there is one list, the length of the other is 0.
+ *
+ * The size of the old pool is checked first and then that of fresh, both side 0, then ours and then theirs: the shape of each, and item by item
+ * 1 and 2. Items need be neither upright nor in order. 6 exactly where the distinct keys together have more bytes than fresh. Keys may overlap in
+ * the old pool, so that apart they can need more bytes than it has; 65,536 bytes of fresh, the most that a pool has, are refused only where the
+ * keys need more.
+ *
+ * Of n keys it makes about n log n comparisons; beside them numbers of two bytes move in its table, none where all keys ascend, and at worst
+ * n * n / 2. It takes some 112 KB of stack. */
+uint64_t fernsponge_collect(const uint8_t *pool, size_t pool_length, uint8_t *fresh, size_t fresh_length, uint32_t *ours, size_t ours_length,
+                            uint32_t *theirs, size_t theirs_length, uint64_t *used);
 
 /* ---- rate cards. A card is a list, checked as check_list does it, as ours, and one amount for each item: ten-thousandths of the currency
  * unit, from -10^12 to 10^12. Wrappers are read through. Nothing is lent for writing but the places of the answer */

@@ -4,6 +4,8 @@
 
 mod card;
 mod chart;
+mod collected;
+mod hashed;
 mod lists;
 mod others;
 mod pairs;
@@ -78,6 +80,7 @@ fn measure(sizes: &[usize]) -> Measured {
         planning: others::planning(),
         stored: stored::run(),
         reading: stored::reading(),
+        collected: collected::run(),
         rates: sizes
             .iter()
             .max()

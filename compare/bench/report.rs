@@ -1,6 +1,7 @@
 //! What a run says: tables of the least times with their ratios, and each target.
 
 use crate::{
+    collected::{Packed, FEW, LENGTH},
     lists::{Earlier, Timed},
     others::{Line, Planned},
     rates::Rated,
@@ -20,6 +21,7 @@ pub struct Measured {
     pub stored: Vec<Changed>,
     /// the total, counted afresh and read
     pub reading: [f64; 2],
+    pub collected: Vec<Packed>,
     pub rates: Vec<Rated>,
 }
 
@@ -46,6 +48,9 @@ impl Measured {
         }
         for (one, two) in self.reading.iter_mut().zip(other.reading) {
             *one = one.min(two);
+        }
+        for (one, two) in self.collected.iter_mut().zip(other.collected) {
+            one.least(two);
         }
         for (one, two) in self.rates.iter_mut().zip(other.rates) {
             one.invoice = one.invoice.least(two.invoice);
@@ -83,7 +88,8 @@ the list that it drains nor freeing what it answers is timed.
 The reference for lists is a sweep with two indexes, written by hand in Rust and unproved (`compare/bench/sweep.rs`), which takes and gives the
 same words: *trusting* takes accepted lists and enough room for granted, *checking* refuses what our call refuses. For keys it is the standard
 library's order of slices. For rate cards it is a binary search by hand (`compare/bench/card.rs`), which checks and refuses as our calls do.
-For stored lists it is a `Vec` of pairs with a total beside it (`compare/bench/pairs.rs`), which checks nothing.
+For stored lists it is a `Vec` of pairs with a total beside it (`compare/bench/pairs.rs`), which checks nothing. For collecting it is the
+standard library's `HashMap` (`compare/bench/hashed.rs`), which checks nothing but the room.
 
 ";
 
@@ -160,6 +166,23 @@ Reading the total of 2,000 pairs: counted afresh, as it was before it was stored
 
 | `fernsponge_len` | `PositionIntervals::len` |
 |--:|--:|
+";
+
+const COLLECTED: &str = "
+## Collecting the pool
+
+The Rust has none. Two lists of ranges, as many of ours as of theirs; *keys* is how many they name together, of {LENGTH} bytes each, which
+differ in their first bytes; at 8,192 both lists are as long as lists may be, and all keys together fill a pool. The fresh pool has room for all
+of them. *Ascending*: from the first of ours to the last of theirs each key is above those before it. *In turns*: each list ascends, and a key
+of theirs stands between two of ours. *Mixed*: in an order by chance, the same in every run. *Few differ*: {FEW} keys, named by chance. Ours
+checks all items, keeps the indices of the keys found in the order of bytes, asks the last of them first, then halves, and moves those above a
+new one on by one place, so that the time depends on the order. The reference checks nothing but the room: it asks a `HashMap<&[u8], u32>` with
+room for all keys, with the standard hash, appends new keys to a `Vec` with room and notes each offset, all in one pass over the lists; then it
+copies bytes and offsets, unless there are too many bytes. Getting and freeing its memory is in its time; lists and fresh pool are copied before
+each call on both sides, which is not timed. *Growth* is a time beside that of half as many keys.
+
+| order | keys | ours | HashMap | ours / HashMap | growth of ours | of HashMap |
+|---|--:|--:|--:|--:|--:|--:|
 ";
 
 const RATES: &str = "
@@ -251,6 +274,13 @@ pub fn text(measured: &Measured) -> String {
     }
     let [counted, read] = measured.reading.map(time);
     text += &format!("{READING}| {counted} | {read} |\n");
+    text += &COLLECTED
+        .replace("{LENGTH}", &LENGTH.to_string())
+        .replace("{FEW}", &FEW.to_string());
+    for (at, row) in measured.collected.iter().enumerate() {
+        let half = at.checked_sub(1).map(|at| &measured.collected[at]);
+        text += &packed(row, half);
+    }
     text += RATES;
     for row in &measured.rates {
         text += &format!(
@@ -301,6 +331,25 @@ fn changed(row: &Changed, by: f64) -> String {
         grouped(row.pairs as u64),
         row.width.name(),
         two(row.ratio()),
+    )
+}
+
+/// A row of times, beside those of the row before it where that has half as many keys in the same order.
+fn packed(row: &Packed, before: Option<&Packed>) -> String {
+    let half = before.filter(|half| half.order == row.order && 2 * half.keys == row.keys);
+    let growth = |of: fn(&Packed) -> f64| {
+        let grown = half.map(|half| of(row) / of(half));
+        grown.map_or("-".to_string(), two)
+    };
+    format!(
+        "| {} | {} | {} | {} | {} | {} | {} |\n",
+        row.order.name(),
+        grouped(row.keys as u64),
+        time(row.ours),
+        time(row.hashed),
+        two(row.ratio()),
+        growth(|row| row.ours),
+        growth(|row| row.hashed),
     )
 }
 

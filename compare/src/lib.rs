@@ -9,6 +9,8 @@ mod boundaries;
 mod calls;
 mod card_calls;
 pub mod cards;
+mod collect_calls;
+mod collecting;
 mod departures;
 pub mod earlier;
 mod either_calls;
@@ -54,6 +56,7 @@ use stand_ins::{error, error::Error, hex_to_ascii, proofs};
 include!(concat!(env!("OUT_DIR"), "/grovedb.rs"));
 pub use query_item::QueryItem;
 
+use collect_calls::{ShortLists, ALL_CODES, EACH_SHAPE};
 use random::Random;
 use std::cmp::Ordering;
 
@@ -95,6 +98,8 @@ pub struct Size {
     windowed: usize,
     /// the rows of which all lists are covered and uncovered by all ranges, and by all two of them where there are four rows fewer
     stored: usize,
+    /// the short lists that are collected, every two of them
+    collected: &'static [ShortLists],
     /// the counts of items at and near the limit that lists are tried with, beside none and one
     counts: &'static [usize],
 }
@@ -116,6 +121,11 @@ pub const SHORT: Size = Size {
     missing: 10,
     windowed: 3,
     stored: 8,
+    collected: &[
+        ShortLists::of(&[0, 2, 3, 9], &ALL_CODES, 1, 2),
+        ShortLists::of(&[2], &ALL_CODES, 2, 1),
+        ShortLists::of(&[3, 4], &EACH_SHAPE, 2, 1),
+    ],
     counts: &[2_049],
 };
 
@@ -136,6 +146,12 @@ pub const LONG: Size = Size {
     missing: 12,
     windowed: 5,
     stored: 12,
+    collected: &[
+        ShortLists::of(&[0, 1, 2, 3, 4, 5, 6, 7, 8, 9], &ALL_CODES, 1, 1),
+        ShortLists::of(&[0, 2, 3, 9], &ALL_CODES, 1, 2),
+        ShortLists::of(&[2, 3], &ALL_CODES, 2, 1),
+        ShortLists::of(&[0, 2, 4, 8], &EACH_SHAPE, 2, 1),
+    ],
     counts: &[2_047, 2_048, 2_049],
 };
 
@@ -159,6 +175,7 @@ pub fn run(size: &Size) -> Vec<table::Row> {
     rows.extend(position_differences::run());
     rows.extend(card_calls::run(random, size));
     rows.extend(stored_calls::run(random, size));
+    rows.extend(collect_calls::run(random, size));
     rows
 }
 

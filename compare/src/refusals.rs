@@ -140,6 +140,25 @@ fn clash(
     below || (plain && !above) || same(*old, *new, pool)
 }
 
+/// Two lists for collecting, which need be neither upright nor in order: the pool, ours entirely, theirs entirely (02 §6).
+pub fn named_lists(pool: &[u8], ours: &[u32], theirs: &[u32]) -> Checked<()> {
+    self::pool(pool)?;
+    named(pool, ours, 0)?;
+    named(pool, theirs, 1)
+}
+
+/// A list whose keys are read: the shape, then each item's 1 and 2.
+fn named(pool: &[u8], words: &[u32], side: u64) -> Checked<()> {
+    shape(words, side)?;
+    for (index, item) in words.chunks(6).filter_map(six).enumerate() {
+        match fault(item, pool) {
+            0 => {}
+            number => return refuse(number, side, index),
+        }
+    }
+    Ok(())
+}
+
 /// A rate card: the pool, the list's shape, 1 for amounts that are not as many as the items, the rest of the list's own, and then 14 for the
 /// first amount that is out of range (02 §8.9, §8.10).
 pub fn card(pool: &[u8], words: &[u32], amounts: &[i64]) -> Checked<()> {

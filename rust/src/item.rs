@@ -1,6 +1,8 @@
 //! Keys, items, and the pool that they stand in.
 
 use crate::{
+    lists::collect_into,
+    memory::zeros,
     refusal::{Refusal, Side},
     words::Words,
 };
@@ -67,6 +69,46 @@ impl Pool {
         };
         self.bytes.extend_from_slice(key);
         Ok(at)
+    }
+
+    /// Collects the pool: it then has only the keys that the items of two lists name, equal ones once, in order of first use, ours before
+    /// theirs and start before end. The items' offsets are rewritten, so that every item shows the same; nothing else of them changes. Whoever
+    /// has one list lends `&mut []` as the other.
+    ///
+    /// Items that stand in neither list, and keys that [`add`](Self::add) told before, no longer name what they named.
+    ///
+    /// Items may be in any order, and their starts may stand above their ends. Refused with 1 where an item is malformed or a list has more than
+    /// 2,048, with 2 where a key is longer than 255 bytes or reaches past the pool, and with 6 where the distinct keys have more than 65,536
+    /// bytes, which keys that overlap can have, or the system has no memory for so many, which are asked for first. The pool and the lists are
+    /// then as they were.
+    ///
+    /// After a call that answers, the pool keeps room for 65,536 bytes, so that keys added later need no more memory. The call takes some 112 KB
+    /// of stack.
+    ///
+    /// ```
+    /// use fernsponge::{insert, Item, Pool};
+    ///
+    /// let (mut pool, mut list) = (Pool::new(), vec![]);
+    /// for lane in 0..100 {
+    ///     let (low, high) = (pool.add(&[lane / 50, lane])?, pool.add(&[lane / 50, lane + 1])?);
+    ///     insert(pool.bytes(), &mut list, Item::range_inclusive(low, high))?;
+    /// }
+    /// let shown = |pool: &Pool, list: &[Item]| list.iter().map(|item| item.shown(pool.bytes())).collect::<Vec<_>>();
+    /// let before = shown(&pool, &list);
+    /// assert_eq!(before, ["RangeInclusive 0000 0032", "RangeInclusive 0132 0164"]);
+    /// assert_eq!(pool.bytes().len(), 400);
+    ///
+    /// pool.collect(&mut list, &mut [])?;
+    /// assert_eq!(pool.bytes(), [0x00, 0x00, 0x00, 0x32, 0x01, 0x32, 0x01, 0x64]);
+    /// assert_eq!(shown(&pool, &list), before);
+    /// # Ok::<(), fernsponge::Refusal>(())
+    /// ```
+    pub fn collect(&mut self, ours: &mut [Item], theirs: &mut [Item]) -> Result<(), Refusal> {
+        let mut fresh = zeros(MOST_POOL);
+        let used = collect_into(&self.bytes, &mut fresh, ours, theirs)?;
+        fresh.truncate(used);
+        self.bytes = fresh;
+        Ok(())
     }
 
     /// The bytes, as every call takes them.

@@ -6,7 +6,7 @@
 //! input itself, and answers, or refuses with a number, a side and an index ([`Refusal`]). A refused call changes nothing.
 //!
 //! Keys stand one after another in a pool of bytes that the caller keeps ([`Pool`] makes one), and an [`Item`] names its keys by offset and
-//! length. A list of items is a slice of them.
+//! length. A list of items is a slice of them. Where insertions have left keys that no item names, [`Pool::collect`] drops them.
 //!
 //! ```
 //! use fernsponge::{intersect_many_ordered, Item, Pool};
@@ -29,6 +29,7 @@ mod ask;
 mod card;
 mod item;
 mod lists;
+mod memory;
 mod positions;
 mod refusal;
 pub mod words;
@@ -41,8 +42,8 @@ pub use ask::{
 pub use card::{Amount, AmountError, Cents, Invoice, RateCard, Total};
 pub use item::{Item, KeyAt, Pool, QueryItem, Shown, Wrapper};
 pub use lists::{
-    insert, insert_item, intersect, intersect_many_into, intersect_many_ordered, Counts, Lists,
-    Pair,
+    collect_into, insert, insert_item, intersect, intersect_many_into, intersect_many_ordered,
+    Counts, Lists, Pair,
 };
 pub use positions::{position_of, PositionIntervals, PositionMismatch, Ranges, RefetchPlan, Span};
 pub use refusal::{Reason, Refusal, Side};

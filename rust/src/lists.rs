@@ -1,4 +1,4 @@
-//! Items and lists of items, two at a time; and insertion.
+//! Items and lists of items, two at a time; insertion; and the keys that two lists name, collected.
 
 use crate::{ask::maybe, item::Item, refusal::Refusal, words};
 
@@ -194,4 +194,38 @@ pub fn insert(pool: &[u8], list: &mut Vec<Item>, item: Item) -> Result<(), Refus
     let after = insert_item(pool, list, count, item);
     list.truncate(*after.as_ref().unwrap_or(&count));
     after.map(|_| ())
+}
+
+/// Writes the keys that the items of two lists name to the front of `fresh`, rewrites the items' offsets, and answers how many bytes the keys
+/// have there. What [`Pool::collect`](crate::Pool::collect) says of keys and lists holds here too; bytes of `fresh` past the keys stay, and later
+/// keys may be written there. Refused with 1 also where `pool` or `fresh` has more than 65,536 bytes, and with 6 exactly where the distinct keys
+/// together have more bytes than `fresh`.
+///
+/// ```
+/// use fernsponge::{collect_into, Item, KeyAt};
+///
+/// let key = |offset, length| KeyAt { offset, length };
+/// let mut ours = [Item::range(key(3, 2), key(1, 2))];
+/// let mut theirs = [Item::key(key(6, 2))];
+/// let mut fresh = *b"........";
+/// assert_eq!(collect_into(b"xbbaaxbb", &mut fresh, &mut ours, &mut theirs), Ok(4));
+/// assert_eq!(&fresh, b"aabb....");
+/// assert_eq!(ours, [Item::range(key(0, 2), key(2, 2))]);
+/// assert_eq!(theirs, [Item::key(key(2, 2))]);
+/// ```
+pub fn collect_into(
+    pool: &[u8],
+    fresh: &mut [u8],
+    ours: &mut [Item],
+    theirs: &mut [Item],
+) -> Result<usize, Refusal> {
+    let mut used = 0;
+    Refusal::from_number(words::collect(
+        pool,
+        fresh,
+        words::of_items_mut(ours),
+        words::of_items_mut(theirs),
+        &mut used,
+    ))?;
+    Ok(used as usize)
 }

@@ -2,6 +2,7 @@
 
 use crate::{
     item::Item,
+    memory::zeros,
     refusal::{Reason, Refusal},
     words::{self, Report},
 };
@@ -322,15 +323,6 @@ const FEW_WINDOWS: usize = 4_096;
 /// The two numbers of each range.
 fn pairs_of(ranges: &[Range<u64>]) -> Vec<u64> {
     ranges.iter().flat_map(|r| [r.start, r.end]).collect()
-}
-
-/// So many zeros, or none where there is no memory for them.
-fn zeros(count: usize) -> Vec<u64> {
-    let mut zeros = vec![];
-    if zeros.try_reserve_exact(count).is_ok() {
-        zeros.resize(count, 0);
-    }
-    zeros
 }
 
 fn report(call: impl FnOnce(&mut Report) -> u64) -> Result<PositionMismatch, Refusal> {

@@ -63,7 +63,7 @@ pub struct Refusal {
     pub number: u8,
     /// Whose input is meant.
     pub side: Side,
-    /// The index of the item, amount, key, pair or position that is meant, from 0; a wrong stored total has the number of pairs; the pool, the
+    /// The index of the item, amount, key, pair or position that is meant, from 0; a wrong stored total has the number of pairs; a pool, the
     /// shape of a list, a card or an invoice, want of room, too many keys and windows of no rows have 0.
     pub index: u64,
 }

@@ -204,6 +204,18 @@ mod c {
             after: &mut u64,
         ) -> u64;
 
+        pub fn fernsponge_collect(
+            pool: *const u8,
+            pool_length: usize,
+            fresh: *mut u8,
+            fresh_length: usize,
+            ours: *mut u32,
+            ours_length: usize,
+            theirs: *mut u32,
+            theirs_length: usize,
+            used: &mut u64,
+        ) -> u64;
+
         pub fn fernsponge_to_cents(amount: i64) -> i64;
 
         pub fn fernsponge_rate(
@@ -550,6 +562,30 @@ pub fn insert_item(
             count,
             item,
             after,
+        )
+    }
+}
+
+/// Writes the keys that the items of two lists name to the front of `fresh`, the items' offsets there, and how many bytes the keys have.
+pub fn collect(
+    pool: &[u8],
+    fresh: &mut [u8],
+    ours: &mut [u32],
+    theirs: &mut [u32],
+    used: &mut u64,
+) -> u64 {
+    // SAFETY: as in `compare_boundaries`, of each of the four that are lent for writing
+    unsafe {
+        c::fernsponge_collect(
+            pool.as_ptr(),
+            pool.len(),
+            fresh.as_mut_ptr(),
+            fresh.len(),
+            ours.as_mut_ptr(),
+            ours.len(),
+            theirs.as_mut_ptr(),
+            theirs.len(),
+            used,
         )
     }
 }

@@ -320,6 +320,353 @@ fn room_in_one_order_only() {
     }
 }
 
+/// Two lists over the pool 09 09 05 06 07 05 06 03: 05 06 stands there twice, and 05 is the front of it.
+fn overlapping() -> ([u8; 8], [Item; 3], [Item; 4]) {
+    let ours = [[2, 0, 2, 2, 4, 1], [0, 2, 5, 2, 0, 0], [5, 0, 0, 0, 3, 0]];
+    let theirs = [
+        [8, 1, 7, 1, 2, 1],
+        [3, 3, 0, 0, 0, 0],
+        [9, 0, 8, 0, 4, 1],
+        [0, 0, 7, 1, 0, 0],
+    ];
+    (
+        [9, 9, 5, 6, 7, 5, 6, 3],
+        ours.map(Item::from_words),
+        theirs.map(Item::from_words),
+    )
+}
+
+#[test]
+fn keys_collected_in_order_of_use() {
+    let (pool, mut ours, mut theirs) = overlapping();
+    let shown = |pool: &[u8], ours: &[Item], theirs: &[Item]| {
+        let items = [ours, theirs].concat();
+        items.into_iter().map(|item| item.shown(pool)).collect()
+    };
+    let before: Vec<String> = shown(&pool, &ours, &theirs);
+    let mut fresh = [0xEE; 7];
+    let used = collect_into(&pool, &mut fresh, &mut ours, &mut theirs);
+    assert_eq!(used, Ok(5));
+    assert_eq!(fresh, [5, 6, 7, 3, 5, 0xEE, 0xEE]);
+    // the empty keys, and the words of absent ones, are 0; codes, wrappers and lengths stay
+    assert_eq!(
+        ours.map(Item::words),
+        [[2, 0, 0, 2, 2, 1], [0, 2, 0, 2, 0, 0], [5, 0, 0, 0, 0, 0]]
+    );
+    assert_eq!(
+        theirs.map(Item::words),
+        [
+            [8, 1, 3, 1, 4, 1],
+            [3, 3, 0, 0, 0, 0],
+            [9, 0, 0, 0, 2, 1],
+            [0, 0, 3, 1, 0, 0]
+        ]
+    );
+    assert_eq!(shown(&fresh, &ours, &theirs), before);
+    // once more, in exactly the room that is used: nothing is left to change
+    let (left, left_ours, left_theirs) = (fresh, ours, theirs);
+    let mut again = [0; 5];
+    let used = collect_into(&left, &mut again, &mut ours, &mut theirs);
+    assert_eq!((used, &again[..]), (Ok(5), &left[..5]));
+    assert_eq!((ours, theirs), (left_ours, left_theirs));
+    // the other way round theirs go first
+    let used = collect_into(&left, &mut again, &mut theirs, &mut ours);
+    assert_eq!((used, again), (Ok(5), [3, 5, 7, 5, 6]));
+    assert_eq!(collect_into(&[], &mut [], &mut [], &mut []), Ok(0));
+}
+
+#[test]
+fn a_collected_pool_goes_on() {
+    let (mut pool, mut ours, mut theirs) = (Pool::new(), vec![], vec![]);
+    let add = |pool: &mut Pool, list: &mut Vec<Item>, low: u8, high: u8| {
+        let item = Item::range_inclusive(pool.add(&[0, low]).unwrap(), pool.add(&[high]).unwrap());
+        insert(pool.bytes(), list, item).unwrap();
+        item
+    };
+    for byte in 1..100 {
+        add(&mut pool, &mut ours, byte, byte + 1);
+    }
+    let lost = add(&mut pool, &mut theirs, 50, 60);
+    assert_eq!((pool.bytes().len(), ours.len()), (300, 1));
+    // a list that is refused leaves the pool, and the lists, as they are
+    let (before, kept) = (pool.bytes().to_vec(), ours.clone());
+    let past = Item::key(KeyAt {
+        offset: 300,
+        length: 1,
+    });
+    let refusal = pool.collect(&mut ours, &mut [lost, past]).unwrap_err();
+    assert_eq!(
+        (refusal.reason(), refusal.side, refusal.index),
+        (Reason::KeyOutside, Side::Theirs, 1)
+    );
+    assert_eq!((pool.bytes(), &ours), (&before[..], &kept));
+
+    pool.collect(&mut ours, &mut theirs).unwrap();
+    assert_eq!(pool.bytes(), [0, 1, 100, 0, 50, 60]);
+    assert_eq!(ours[0].words(), [2, 0, 0, 2, 2, 1]);
+    assert_eq!(theirs[0].words(), [2, 0, 3, 2, 5, 1]);
+    // new keys go behind those
+    add(&mut pool, &mut ours, 0, 101);
+    assert_eq!(pool.bytes(), [0, 1, 100, 0, 50, 60, 0, 0, 101]);
+    assert_eq!(ours[0].shown(pool.bytes()), "RangeInclusive 0000 65");
+    // and theirs is dropped where it is not lent
+    pool.collect(&mut [], &mut ours).unwrap();
+    assert_eq!(pool.bytes(), [0, 0, 101]);
+    pool.collect(&mut [], &mut []).unwrap();
+    assert_eq!(pool.bytes(), []);
+}
+
+#[test]
+fn as_many_keys_as_there_can_be() {
+    // 8,192 keys of 8 bytes, named from the last to the first: a whole pool, there and after
+    let mut pool = Pool::new();
+    let mut keys: Vec<KeyAt> = (0..8_192u64)
+        .map(|number| pool.add(&number.to_be_bytes()).unwrap())
+        .collect();
+    keys.reverse();
+    let mut items: Vec<Item> = keys
+        .chunks(2)
+        .map(|pair| Item::range(pair[0], pair[1]))
+        .collect();
+    let (ours, theirs) = items.split_at_mut(2_048);
+    // one byte more than that has no room
+    let (before, last) = (pool.bytes().to_vec(), theirs[0]);
+    theirs[0] = Item::from_words([1, 0, keys[4_096].offset, 9, keys[4_097].offset, 8]);
+    let left = (ours.to_vec(), theirs.to_vec());
+    let refusal = pool.collect(ours, theirs).unwrap_err();
+    assert_eq!(
+        (refusal.reason(), refusal.side, refusal.index),
+        (Reason::NoRoom, Side::Ours, 0)
+    );
+    assert_eq!((ours.to_vec(), theirs.to_vec()), left);
+    assert_eq!(pool.bytes(), before);
+
+    theirs[0] = last;
+    pool.collect(ours, theirs).unwrap();
+    let turned: Vec<u8> = before.chunks(8).rev().flatten().copied().collect();
+    assert_eq!(pool.bytes(), turned);
+    for (number, item) in items.iter().enumerate() {
+        let offset = 16 * number as u32;
+        assert_eq!(item.words(), [1, 0, offset, 8, offset + 8, 8]);
+    }
+    // apart, keys that overlap need more bytes than before
+    let (mut pool, mut lists) = (Pool::new(), [Item::default(); 2]);
+    let one = pool.add(&[&[0; 100][..], &[1; 100]].concat()).unwrap();
+    for (item, offset) in lists.iter_mut().zip([0, 1]) {
+        *item = Item::key(KeyAt {
+            offset,
+            length: one.length - 1,
+        });
+    }
+    pool.collect(&mut lists, &mut []).unwrap();
+    assert_eq!((pool.bytes().len(), lists[1].words()[2]), (398, 199));
+}
+
+#[test]
+fn collecting_in_lent_memory() {
+    // what is lent stands between bytes, words and numbers that are not
+    let (pool, ours, theirs) = overlapping();
+    let between = |items: &[Item]| [&[7], words::of_items(items), &[7]].concat();
+    for (room, refused, told) in [(4, 6, 7), (5, 0, 5), (7, 0, 5)] {
+        let mut bytes = [0xEE; 9];
+        let (mut our_words, mut their_words) = (between(&ours), between(&theirs));
+        let mut used = [7; 3];
+        let returned = words::collect(
+            &pool,
+            &mut bytes[1..1 + room],
+            &mut our_words[1..19],
+            &mut their_words[1..25],
+            &mut used[1],
+        );
+        assert_eq!((returned, used), (refused, [7, told, 7]));
+        let (mut fresh, mut our_items, mut their_items) = ([0xEE; 7], ours, theirs);
+        if refused == 0 {
+            collect_into(&pool, &mut fresh, &mut our_items, &mut their_items).unwrap();
+        }
+        assert_eq!(bytes[..], [&[0xEE], &fresh[..], &[0xEE]].concat());
+        assert_eq!(our_words, between(&our_items));
+        assert_eq!(their_words, between(&their_items));
+    }
+}
+
+#[test]
+fn a_refused_collection_leaves_what_is_lent() {
+    let refusal = |number, side: u64, index: u64| number + 256 * side + 65_536 * index;
+    let (pool, long) = (pool(), vec![0; 65_537]);
+    let key = |byte| [0, 0, byte, 1, 0, 0];
+    let (unknown, past) = ([10, 0, 0, 0, 0, 0], [0, 0, 256, 1, 0, 0]);
+    let words = |items: &[[u32; 6]]| items.concat();
+    let cut = |items: &[[u32; 6]]| items.concat()[1..].to_vec();
+    // each fault beside those that stand behind it, of which the last is that no byte has room
+    for (pool, room, ours, theirs, refused) in [
+        (
+            &long,
+            65_537,
+            words(&[key(5), past]),
+            cut(&[past]),
+            refusal(1, 0, 0),
+        ),
+        (&long, 0, words(&[key(5)]), words(&[past]), refusal(1, 0, 0)),
+        (
+            &pool,
+            65_537,
+            words(&[key(5)]),
+            words(&[past]),
+            refusal(1, 0, 0),
+        ),
+        (
+            &pool,
+            65_537,
+            words(&[key(5), past]),
+            cut(&[past]),
+            refusal(1, 0, 0),
+        ),
+        (&pool, 0, cut(&[past, past]), cut(&[past]), refusal(1, 0, 0)),
+        (
+            &pool,
+            0,
+            words(&[past; 2_049]),
+            cut(&[past]),
+            refusal(1, 0, 0),
+        ),
+        (
+            &pool,
+            0,
+            words(&[key(5), unknown, past]),
+            cut(&[past]),
+            refusal(1, 0, 1),
+        ),
+        (
+            &pool,
+            0,
+            words(&[key(5), past, unknown]),
+            cut(&[past]),
+            refusal(2, 0, 1),
+        ),
+        (
+            &pool,
+            0,
+            words(&[key(5)]),
+            cut(&[past, past]),
+            refusal(1, 1, 0),
+        ),
+        (
+            &pool,
+            0,
+            words(&[key(5)]),
+            words(&[past; 2_049]),
+            refusal(1, 1, 0),
+        ),
+        (
+            &pool,
+            0,
+            words(&[key(5)]),
+            words(&[key(5), key(6), unknown]),
+            refusal(1, 1, 2),
+        ),
+        (
+            &pool,
+            0,
+            words(&[key(5)]),
+            words(&[key(5), past, unknown]),
+            refusal(2, 1, 1),
+        ),
+        // of one item: a wrapper, a word of an absent key, and then its keys, too long or past the pool
+        (
+            &pool,
+            0,
+            words(&[[0, 4, 256, 1, 0, 0]]),
+            vec![],
+            refusal(1, 0, 0),
+        ),
+        (
+            &pool,
+            0,
+            words(&[[0, 0, 256, 1, 0, 1]]),
+            vec![],
+            refusal(1, 0, 0),
+        ),
+        (
+            &pool,
+            0,
+            words(&[[0, 0, 256, 1, 1, 0]]),
+            vec![],
+            refusal(1, 0, 0),
+        ),
+        (
+            &pool,
+            0,
+            words(&[[0, 0, 0, 256, 0, 0]]),
+            vec![],
+            refusal(2, 0, 0),
+        ),
+        (
+            &pool,
+            0,
+            words(&[[0, 0, 257, 0, 0, 0]]),
+            vec![],
+            refusal(2, 0, 0),
+        ),
+        (
+            &pool,
+            0,
+            words(&[[2, 0, 0, 1, 255, 2]]),
+            vec![],
+            refusal(2, 0, 0),
+        ),
+        (
+            &pool,
+            0,
+            words(&[[0, 0, u32::MAX, 1, 0, 0]]),
+            vec![],
+            refusal(2, 0, 0),
+        ),
+        // three distinct keys
+        (
+            &pool,
+            2,
+            words(&[key(5), key(6), key(5)]),
+            words(&[key(6), key(7)]),
+            refusal(6, 0, 0),
+        ),
+        (&pool, 0, vec![], words(&[key(7)]), refusal(6, 0, 0)),
+    ] {
+        let (mut fresh, mut used) = (vec![0xEE; room], 7);
+        let (mut our_words, mut their_words) = (ours.clone(), theirs.clone());
+        let returned = words::collect(
+            pool,
+            &mut fresh,
+            &mut our_words,
+            &mut their_words,
+            &mut used,
+        );
+        assert_eq!((returned, used), (refused, 7));
+        assert_eq!((our_words, their_words), (ours, theirs));
+        assert!(fresh.iter().all(|&byte| byte == 0xEE));
+    }
+    // neither order nor an upright item is asked for, and no byte where no key has one
+    for (room, ours, theirs, used) in [
+        (3, vec![[2, 0, 5, 1, 3, 1]], vec![key(9), key(5), key(5)], 3),
+        (0, vec![[0, 0, 256, 0, 0, 0]], vec![[3, 0, 0, 0, 0, 0]], 0),
+        (
+            0,
+            vec![[3, 0, 0, 0, 0, 0]; 2_048],
+            vec![[0, 3, 9, 0, 0, 0]; 2_048],
+            0,
+        ),
+    ] {
+        let mut told = 7;
+        let returned = words::collect(
+            &pool,
+            &mut vec![0; room],
+            &mut words(&ours),
+            &mut words(&theirs),
+            &mut told,
+        );
+        assert_eq!((returned, told), (0, used));
+    }
+}
+
 /// [01,05), then [05,09], then the key 0B, which is wrapped.
 fn lanes() -> [Item; 3] {
     [

@@ -1,6 +1,6 @@
-//! Covered positions where the system grants no memory for one interval more.
+//! Covered positions where the system grants no memory for one interval more, and a pool where it grants none for a fresh one.
 
-use fernsponge::{PositionIntervals, Reason};
+use fernsponge::{Item, Pool, PositionIntervals, Reason, Side};
 use std::{
     alloc::{GlobalAlloc, Layout, System},
     cell::Cell,
@@ -31,12 +31,17 @@ unsafe impl GlobalAlloc for Scarce {
 #[global_allocator]
 static MEMORY: Scarce = Scarce;
 
-/// What is done where 300,000 bytes are granted at once.
-fn with_scarce<T>(act: impl FnOnce() -> T) -> T {
-    GRANTED.set(300_000);
+/// What is done where so many bytes are granted at once.
+fn with_granted<T>(bytes: usize, act: impl FnOnce() -> T) -> T {
+    GRANTED.set(bytes);
     let done = act();
     GRANTED.set(usize::MAX);
     done
+}
+
+/// What is done where 300,000 bytes are granted at once.
+fn with_scarce<T>(act: impl FnOnce() -> T) -> T {
+    with_granted(300_000, act)
 }
 
 #[test]
@@ -59,4 +64,25 @@ fn no_memory_for_one_more() {
     covered.cover(99_998..99_999).unwrap();
     assert_eq!(covered.len(), 50_005);
     assert_eq!(covered.into_stored().0.len(), 40_000);
+}
+
+#[test]
+fn no_memory_for_a_fresh_pool() {
+    let mut pool = Pool::new();
+    pool.add(b"named by nothing").unwrap();
+    let mut list = [Item::key(pool.add(b"DE-FR/05").unwrap())];
+    let before = (pool.bytes().to_vec(), list);
+    let refusal = with_granted(65_535, || pool.collect(&mut list, &mut [])).unwrap_err();
+    assert_eq!(
+        (refusal.reason(), refusal.side, refusal.index),
+        (Reason::NoRoom, Side::Ours, 0)
+    );
+    assert_eq!((pool.bytes().to_vec(), list), before);
+    // 65,536 bytes are enough
+    assert_eq!(
+        with_granted(65_536, || pool.collect(&mut list, &mut [])),
+        Ok(())
+    );
+    assert_eq!(pool.bytes(), b"DE-FR/05");
+    assert_eq!(list[0].words(), [0, 0, 0, 8, 0, 0]);
 }

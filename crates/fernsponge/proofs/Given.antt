@@ -1,4 +1,4 @@
--- The call on two lists, the pairs of a query and the windows of a plan tell their answers, and leave what was lent to them as they promise.
+-- The call on two lists, the pairs of a query, the windows of a plan and a collected pool tell their answers, and leave what was lent to them as they promise.
 -- Assumes nothing.
 use Prim.Native.Nat.{ℕ, _/_}
 use mathlib.Core.Path.{_≡_, refl, sym, ap, _∙_}
@@ -21,6 +21,10 @@ use Rattle.position_plan.specs.Plans.{planAnswer, countIn, plannedOf, PlanRefet
 use Rattle.fernsponge.specs.Intersect.{countNumbers, GivesMany}
 use Rattle.fernsponge.specs.Positions.{pairsIn, rowsIn, GivesPairs}
 use Rattle.fernsponge.specs.Plans.{GivesPlan}
+use Rattle.pool_collect.specs.declared.Collected.{Collected}
+use Rattle.pool_collect.specs.declared.Collected.the-variants as collected
+use Rattle.pool_collect.specs.Collected.{collectAnswer, collectedOf, Collects}
+use Rattle.fernsponge.specs.Collecting.{GivesCollected}
 
 module _ {pool ours theirs both mine yours counts both′ mine′ yours′ : List ℕ}
     (p : both′ ≡ written (manyAnswer pool ours theirs both mine yours) (plain (sharedItems pool ours theirs)) both)
@@ -83,3 +87,16 @@ module _ {ws P : List ℕ} {W : ℕ} {out out′ : List ℕ} where
       go : (x : Answer (List Interval)) → refusedAs refusal ≡ countIn x → (r ≡ returned x) × (windows ≡ left length x windows)
       go (answered L) q = let z : _≡_ {A = ℕ} 0 1 = cc in absurd (omega arith)
       go (refused m s i) q = (n ∙ cc, refl)
+
+-- a pool collected: how many bytes, or why not
+module _ {pool fresh ours theirs fresh′ ours′ theirs′ : List ℕ} {told : Collected} (F : Collects pool fresh ours theirs (collectedOf told) fresh′ ours′ theirs′) where
+  pub collected-told : {n used : ℕ} → told ≡ collected.Used n → GivesCollected pool fresh ours theirs used 0 fresh′ ours′ theirs′ n
+  collected-told {n = n} e =
+      let is : collectAnswer pool fresh ours theirs ≡ answered n = sym (F .answer) ∙ ap collectedOf e in
+      record { number = rw is; bytes = F .bytes; ours-words = F .ours-words; theirs-words = F .theirs-words; counted = rw is }
+
+  pub collected-refused : {refusal : Refusal} {r used : ℕ} → told ≡ collected.Refused refusal
+      → r ≡ refusalNumber (refusal .number) (refusal .side) (refusal .index) → GivesCollected pool fresh ours theirs used r fresh′ ours′ theirs′ used
+  collected-refused {refusal = refusal} e n =
+      let is : collectAnswer pool fresh ours theirs ≡ refusedAs refusal = sym (F .answer) ∙ ap collectedOf e in
+      record { number = rw is n; bytes = F .bytes; ours-words = F .ours-words; theirs-words = F .theirs-words; counted = rw is }

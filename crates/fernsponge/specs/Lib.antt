@@ -4,3 +4,4 @@ pub mod Intersect
 pub mod Positions
 pub mod Plans
 pub mod Cards
+pub mod Collecting

@@ -5,9 +5,10 @@
 // only where it returns 0. A place for an answer of fixed size has that size, so that 6 is want of room for a list, pairs or a text alone. An
 // item that may be missing is seven words: 1 and its words, or seven times 0. A call that refuses nothing returns its answer.
 // Definitions: specs/Answers.antt (numbers, what is returned and left), specs/Calls.antt (kinds as numbers), specs/Intersect.antt (modules 3
-// and 4), specs/Positions.antt (module 6, section 4 of document 02), specs/Plans.antt and specs/Cards.antt (its sections 9 and 8). Laws:
-// proofs/Laws.antt.
+// and 4), specs/Positions.antt (module 6, section 4 of document 02), specs/Plans.antt, specs/Cards.antt and specs/Collecting.antt (its sections
+// 9, 8 and 6). Laws: proofs/Laws.antt.
 pub mod cards;
+pub mod collecting;
 pub mod insertion;
 pub mod items;
 pub mod many;

@@ -1,7 +1,7 @@
 -- What a call that answers has checked, and what it leaves: a buffer as long as before with the list at its front, which the next call accepts.
 -- Assumes nothing.
 use Prim.Native.Nat.{ℕ, _/_, _≤_}
-use mathlib.Core.Path.{_≡_, sym, ap}
+use mathlib.Core.Path.{_≡_, sym}
 use mathlib.Core.Bool.{Bool, true, false, cond, _||_}
 use mathlib.Core.List.{List}
 use native.Mathlib.Omega.{arith}
@@ -10,13 +10,13 @@ use lib.Dec.{ltb}
 use borrow.Author.Tests.{ltb-false, le-ltb}
 use Rattle.query_item.specs.declared.ItemWords.{ItemWords}
 use Rattle.query_item.specs.Items.{itemSize, itemsFrom}
-use Rattle.item_check.specs.Checks.{Answer, answered, refused, accepted, mostItems, poolVerdict, uprightFault}
-use Rattle.item_check.proofs.Laws.{answers}
+use Rattle.item_check.specs.Checks.{Answer, answered, refused, accepted, mostItems, uprightFault}
+use Rattle.item_check.proofs.Laws.{answers, words-answered}
 use Rattle.item_lists.proofs.Written.{length-flat}
-use Rattle.insert_order.specs.Refusals.{bufferVerdict, orderedVerdict, inputVerdict}
-use Rattle.insert_order.proofs.Accepted.{input-pool, input-buffer, input-count, input-list, input-new}
+use Rattle.insert_order.specs.Refusals.{inputVerdict}
+use Rattle.insert_order.proofs.Accepted.{Ready, input-pool, input-buffer, input-count, input-list, input-new}
 use Rattle.insert.specs.Insertion.{inserted}
-use Rattle.insert.specs.Answers.{roomAnswer, laid, wordsBy, listAfter, checkedAnswer, insertAnswer, insertWords}
+use Rattle.insert.specs.Answers.{roomAnswer, laid, listAfter, checkedAnswer, insertAnswer, insertWords}
 use Rattle.insert.proofs.Laws.{insert-accepted, laid-items}
 
 -- ---- the room
@@ -38,14 +38,9 @@ length-laid : (ws : List ℕ) (count : ℕ) (its : List ItemWords) → count ≤
 unfolding laid
 length-laid ws count its h l = simp (length-append, length-replicate, length-drop, length-flat) (omega arith)
 
--- ---- a list that an insertion accepts: pool, count and items pass the checks
+-- ---- a list that an insertion accepts
 
-pub record Ready (pool ws : List ℕ) (count : ℕ) : Type 0 where
-  pub small : poolVerdict pool ≡ accepted
-  pub within : bufferVerdict ws count ≡ accepted
-  pub listed : orderedVerdict pool (itemsFrom ws 0 count) ≡ accepted
-
--- into such a list an item that passes the checks is refused for want of room alone
+-- an item that passes the checks is refused for want of room alone
 pub ready-answer : (pool ws : List ℕ) (count : ℕ) (new : ItemWords) → Ready pool ws count → uprightFault pool new ≡ 0
     → insertAnswer pool ws count new ≡ roomAnswer ws (length (inserted pool new (itemsFrom ws 0 count)))
 ready-answer pool ws count new r u = rw (r .small, r .within, r .listed, u)
@@ -63,7 +58,7 @@ module _ (pool ws : List ℕ) (count : ℕ) (new : ItemWords) (n : ℕ) (e : ins
   room = room-passed ws (length after) n (passed .1)
 
   words-left : insertWords pool ws count new ≡ laid ws count after
-  words-left = ap (λ (r : Answer ℕ). wordsBy r ws (laid ws count after)) e
+  words-left = words-answered e ws (laid ws count after)
 
   -- the list was accepted, and the new item passes the checks
 

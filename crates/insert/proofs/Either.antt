@@ -243,7 +243,7 @@ module _ (pool : List ℕ) (its : List ItemWords) where
       either-joined : map (shown pool) (inserted pool y (inserted pool x its)) ≡ map (shown pool) (inserted pool x (inserted pool y its))
       either-joined =
           ap (map (shown pool)) (one-placed x y ux uy n)
-          ∙ placed-shown pool (N x y) (N y x) (staying pool y (staying pool x its)) (staying pool x (staying pool y its)) one-shown
+          ∙ placed-shown pool pool (N x y) (N y x) (staying pool y (staying pool x its)) (staying pool x (staying pool y its)) one-shown
           (ap (map (shown pool)) (staying-comm pool x y its))
           ∙ ap (map (shown pool)) (sym (one-placed y x uy ux other-gone))
 

@@ -96,13 +96,13 @@ insert-either pool its x y e f g p q =
     either-shown pool its (accepted-sorted pool its e) x y
     (record { bare = p; stands = upright-ranks pool x f }) (record { bare = q; stands = upright-ranks pool y g })
 
--- what is inserted goes by what is shown alone: offsets in the pool do not tell
-pub insert-shown : (pool : List ℕ) (x y : ItemWords) (A B : List ItemWords) → shown pool x ≡ shown pool y → map (shown pool) A ≡ map (shown pool) B
-    → map (shown pool) (inserted pool x A) ≡ map (shown pool) (inserted pool y B)
+-- an insertion goes by what items show, whatever pool they stand in: offsets do not tell
+pub insert-shown : (P Q : List ℕ) (x y : ItemWords) (A B : List ItemWords) → shown P x ≡ shown Q y → map (shown P) A ≡ map (shown Q) B
+    → map (shown P) (inserted P x A) ≡ map (shown Q) (inserted Q y B)
 unfolding inserted
-insert-shown pool x y A B s e =
-    placed-shown pool (mergedWith pool x x A) (mergedWith pool y y B) (staying pool x A) (staying pool y B) (result-shown pool x y x y A B s s e)
-    (staying-shown pool x y A B s e)
+insert-shown P Q x y A B s e =
+    placed-shown P Q (mergedWith P x x A) (mergedWith Q y y B) (staying P x A) (staying Q y B) (result-shown P Q x y x y A B s s e)
+    (staying-shown P Q x y A B s e)
 
 -- an item that meets nothing changes no other item: it goes between some and the others
 module _ (pool : List ℕ) (new : ItemWords) where

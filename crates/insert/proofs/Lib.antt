@@ -1,5 +1,5 @@
 pub mod Reading
-pub mod Written
+pub mod Cleared
 pub mod Moves
 pub mod Windows
 pub mod Tails

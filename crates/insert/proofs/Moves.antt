@@ -19,7 +19,8 @@ use Rattle.insert.specs.Insertion.{placed}
 use Rattle.insert.specs.Answers.{laid}
 use Rattle.insert.specs.Passes.{Stay, staysAt, pick, goesFirst, Moved, cleared}
 use Rattle.insert.proofs.Windows.{stays-is}
-use Rattle.insert.proofs.Written.{take-with, drop-with, length-with, item-alike}
+use Rattle.item_lists.proofs.Written.{length-with}
+use Rattle.item_lists.proofs.Words.{take-with, drop-with, item-alike}
 
 -- what comes of the item in hand and some that stay
 unfoldable pub handed : List ℕ → Bool → ItemWords → List ItemWords → List ItemWords
@@ -124,7 +125,7 @@ module _ (pool ws₀ : List ℕ) (count : ℕ) (new : ItemWords) (out : List Ite
         record {
           read = omega arith;
           behind = omega arith;
-          size = length-with ws to (pick first old hand) room ∙ size;
+          size = length-with ws to (pick first old hand) ∙ size;
           unread = drop-with ws to (pick first old hand) room (i + 1) (omega arith) ∙ drop-more ws i (m .unread);
           many = omega (arith, m .many, ap length f);
           whole =
@@ -147,7 +148,7 @@ module _ (pool ws₀ : List ℕ) (count : ℕ) (new : ItemWords) (out : List Ite
           n,
           rw v
               record {
-                size = length-with ws to hand room ∙ size;
+                size = length-with ws to hand ∙ size;
                 front = rw (← n, take-with ws to hand room) (ap (λ (l′ : List ItemWords). take (itemSize * to) ws ++ flatAll l′) (sym f) ∙ m .whole);
                 back = rw (← n) (drop-with ws to hand room (max count (to + 1)) (omega arith) ∙ past);
               },

@@ -13,7 +13,7 @@ use borrow.Author.Tests.{ltb-true, ltb-false, lt-ltb, le-ltb}
 use Rattle.key_order.specs.Order.{isLess}
 use Rattle.key_order.proofs.Line.{size}
 use Rattle.query_item.specs.declared.ItemWords.{ItemWords}
-use Rattle.query_item.specs.Items.{Shown, shown}
+use Rattle.query_item.specs.Items.{shown}
 use Rattle.insert_order.specs.Order.{orderItems}
 use Rattle.insert_order.proofs.Ranked.{itemRank, order-less, order-shown}
 use Rattle.insert_order.proofs.Ordered.{Among, among-parts, parts-among, Sorted}
@@ -242,20 +242,19 @@ module _ (pool : List ℕ) where
       go false p true q r = rw (p, below a b, lt-ltb (K a) (K b) h, q)
       go false p false q r = rw (below b a, le-ltb (K b) (K a) (omega arith), below a b, lt-ltb (K a) (K b) h, q)
 
-  -- the same by bytes, put into lists that are so, they make lists that are so
-  pub placed-shown : (a b : ItemWords) (A B : List ItemWords) → shown pool a ≡ shown pool b → map (shown pool) A ≡ map (shown pool) B
-      → map (shown pool) (placed pool a A) ≡ map (shown pool) (placed pool b B)
+-- what shows the same, put into lists that do, makes lists that do, in one pool or in two
+module _ (P Q : List ℕ) where
+  pub placed-shown : (a b : ItemWords) (A B : List ItemWords) → shown P a ≡ shown Q b → map (shown P) A ≡ map (shown Q) B
+      → map (shown P) (placed P a A) ≡ map (shown Q) (placed Q b B)
   unfolding placed
-  placed-shown a b [] [] s e = ap (λ (h : Shown). h ∷ []) s
+  placed-shown a b [] [] s e = ap₂ _∷_ s e
   placed-shown a b [] (y ∷ B) s e = absurd (omega (arith, ap length e))
   placed-shown a b (x ∷ A) [] s e = absurd (omega (arith, ap length e))
   placed-shown a b (x ∷ A) (y ∷ B) s e =
-      let head : shown pool x ≡ shown pool y = cc in
-      let tail : map (shown pool) A ≡ map (shown pool) B = cc in
-      rw (order-shown pool pool x y a b head s) (go (isLess (orderItems pool y b)) head tail (placed-shown a b A B s tail))
+      let h : shown P x ≡ shown Q y = cc in
+      rw (order-shown P Q x y a b h s) (go (isLess (orderItems Q y b)) (ap₂ _∷_ h (placed-shown a b A B s cc)))
     where
-      go : (t : Bool) → shown pool x ≡ shown pool y → map (shown pool) A ≡ map (shown pool) B
-          → map (shown pool) (placed pool a A) ≡ map (shown pool) (placed pool b B)
-          → map (shown pool) (cond t (x ∷ placed pool a A) (a ∷ x ∷ A)) ≡ map (shown pool) (cond t (y ∷ placed pool b B) (b ∷ y ∷ B))
-      go true h m r = ap₂ _∷_ h r
-      go false h m r = ap₂ _∷_ s (ap₂ _∷_ h m)
+      go : (t : Bool) → map (shown P) (x ∷ placed P a A) ≡ map (shown Q) (y ∷ placed Q b B)
+          → map (shown P) (cond t (x ∷ placed P a A) (a ∷ x ∷ A)) ≡ map (shown Q) (cond t (y ∷ placed Q b B) (b ∷ y ∷ B))
+      go true r = r
+      go false r = ap₂ _∷_ s e

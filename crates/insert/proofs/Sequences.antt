@@ -18,15 +18,16 @@ use Rattle.item_lists.specs.Written.{passes}
 use Rattle.insert_order.specs.Order.{orderItems, plain, sameItem}
 use Rattle.insert_order.specs.Refusals.{orderedVerdict}
 use Rattle.insert_order.proofs.Ordered.{Among}
+use Rattle.insert_order.proofs.Accepted.{Ready}
 use Rattle.insert_merge.specs.declared.Fate.the-variants.{Stays}
 use Rattle.insert_merge.specs.Merge.{fateOf, mergedWith}
 use Rattle.insert.specs.Insertion.{inserted}
 use Rattle.insert.specs.Answers.{insertAnswer, insertWords}
 use Rattle.insert.specs.Sequence.{insertedAll, nextAnswer, nextWords, insertAllAnswer, insertAllWords, StandsBefore}
-use Rattle.insert.proofs.Written.{length-items}
+use Rattle.item_lists.proofs.Words.{length-items}
 use Rattle.insert.proofs.Tails.{length-staying, length-inserted}
 use Rattle.insert.proofs.Laws.{insert-accepted, insert-arrival, insert-keeps, insert-either, insert-shown}
-use Rattle.insert.proofs.Called.{room-enough, Ready, ready-answer, called-list, called-item, called-items, called-size, called-ready}
+use Rattle.insert.proofs.Called.{room-enough, ready-answer, called-list, called-item, called-items, called-size, called-ready}
 
 module _ (pool : List ℕ) where
   -- ---- what is meant
@@ -65,7 +66,7 @@ module _ (pool : List ℕ) where
   all-shown : (news A B : List ItemWords) → map (shown pool) A ≡ map (shown pool) B → map (shown pool) (insertedAll pool news A) ≡ map (shown pool) (insertedAll pool news B)
   unfolding insertedAll
   all-shown [] A B e = e
-  all-shown (new ∷ news) A B e = all-shown news (inserted pool new A) (inserted pool new B) (insert-shown pool new new A B refl e)
+  all-shown (new ∷ news) A B e = all-shown news (inserted pool new A) (inserted pool new B) (insert-shown pool pool new new A B refl e)
 
   -- an insertion after which both stay
   abbrev pub LeavesBoth : ItemWords → ItemWords → ItemWords → Type 0

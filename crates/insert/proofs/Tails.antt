@@ -20,7 +20,7 @@ use Rattle.insert_merge.specs.Merge.{fateOf, keepBy, staying, mergedWith, isSta
 use Rattle.insert.specs.Insertion.{placed, inserted}
 use Rattle.insert.specs.Answers.{laid}
 use Rattle.insert.specs.Passes.{Stay, keepsPlace, firstChanged}
-use Rattle.insert.proofs.Written.{item-drop, items-drop, flat-append, flat-front, length-items}
+use Rattle.item_lists.proofs.Words.{item-drop, items-drop, flat-append, flat-front, length-items}
 
 -- ---- how many items there are
 

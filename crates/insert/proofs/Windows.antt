@@ -26,7 +26,7 @@ use Rattle.insert_merge.specs.Merge.{fateOf, keepBy, staying, mergeBy, mergedWi
 use Rattle.insert_merge.proofs.Merged.{merged-none, ends-ranks, ranks-stay}
 use Rattle.insert_merge.proofs.Staying.{merges-gone, staying-all}
 use Rattle.insert.specs.Passes.{Ascending, Below, Stay, Asked, keepsPlace, firstChanged, staysAt}
-use Rattle.insert.proofs.Written.{length-items}
+use Rattle.item_lists.proofs.Words.{length-items}
 
 module _ (pool : List ℕ) where
   abbrev K : ItemWords → ℕ

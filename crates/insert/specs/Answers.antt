@@ -6,7 +6,7 @@ use lib.ListN.{length, drop, replicate}
 use lib.Dec.{ltb}
 use Rattle.query_item.specs.declared.ItemWords.{ItemWords}
 use Rattle.query_item.specs.Items.{itemSize, itemsFrom, flatAll}
-use Rattle.item_check.specs.Checks.{Answer, answered, refused, andThen, refusedAs, mostItems}
+use Rattle.item_check.specs.Checks.{Answer, answered, refused, andThen, wordsBy, refusedAs, mostItems}
 use Rattle.item_lists.specs.Written.{passes}
 use Rattle.insert_order.specs.Refusals.{inputVerdict}
 use Rattle.insert.specs.declared.Inserted.{Inserted}
@@ -30,11 +30,6 @@ roomAnswer ws n = cond (passes n ws || ltb mostItems n) (refused 6 0 0) (answere
 unfoldable pub laid : List ℕ → ℕ → List ItemWords → List ℕ
 laid ws count its =
     flatAll its ++ (replicate (itemSize * (count - length its)) 0 ++ drop (itemSize * max count (length its)) ws)
-
--- 01 demand.1, reading A1: on a refusal all words stay
-abbrev pub wordsBy : Answer ℕ → List ℕ → List ℕ → List ℕ
-wordsBy (answered n) before after = after
-wordsBy (refused number side index) before after = before
 
 -- ---- the call
 

@@ -1,6 +1,6 @@
 -- A result is converted where anything merged: it then shows what its boundaries tell. Where nothing merged the new item stays as it is, and
 -- may be written otherwise, as [05,05] is for Key 05 (reading A8). Assumes nothing.
-use Prim.Native.Nat.{ℕ, _≤_}
+use Prim.Native.Nat.{ℕ}
 use mathlib.Core.Path.{_≡_, refl, sym, ap, _∙_}
 use mathlib.Core.Bool.{true}
 use mathlib.Core.Logic.{_⊎_, inl, inr}
@@ -10,40 +10,39 @@ use native.Mathlib.Nat.{le-refl}
 use lib.ListN.{length}
 use Rattle.key_order.proofs.Line.{size}
 use Rattle.query_item.specs.declared.ItemWords.{ItemWords}
-use Rattle.query_item.specs.declared.RangeSetItem.{RangeSetItem}
+use Rattle.query_item.specs.declared.RangeSet.{RangeSet}
 use Rattle.query_item.specs.declared.MaybeItem.{MaybeItem}
 use Rattle.query_item.specs.declared.MaybeItem.the-variants.{NoItem, Item}
 use Rattle.query_item.specs.Items.{shown}
-use Rattle.query_item.specs.Boundaries.{boundaryOf, rangeOf, itemBetween}
-use Rattle.query_item.proofs.Laws.{query-words, Keeps, item-keeps, Starts, Ends, told, Tells, item-told, told-same}
+use Rattle.query_item.specs.Boundaries.{boundaryOf, compareIn, rangeOf, toQueryItem}
+use Rattle.query_item.proofs.Laws.{query-words, Keeps, item-keeps, told, Tells, item-told, shown-range, told-same}
 use Rattle.insert_order.specs.Order.{sameItem}
-use Rattle.insert_order.proofs.Ranked.{rk, lo, hi, same-shown, shown-same, same-range, same-rank}
+use Rattle.insert_order.proofs.Ranked.{rk, lo, hi, same-shown, same-range}
 use Rattle.insert_order.proofs.Ordered.{Among}
 use Rattle.insert_merge.specs.declared.Fate.{Fate}
 use Rattle.insert_merge.specs.declared.Fate.the-variants.{Replaced, Stays, Merges}
 use Rattle.insert_merge.specs.Merge.{fateOf, hull, plainItem, merged, mergeBy, mergedWith}
-use Rattle.insert_merge.proofs.Merged.{fate-shown, Alone, merged-keeps, hull-says, merged-spans}
+use Rattle.insert_merge.proofs.Merged.{fate-shown, chosen-shown, Alone, merged-keeps, hull-says}
 
 module _ (pool : List ℕ) where
+  -- an item shows what the boundaries of a range tell; a converted one, what its own do
+  abbrev Shows : RangeSet → ItemWords → Type 0
+  Shows r it = shown pool it ≡ told (boundaryOf pool (r .start)) (boundaryOf pool (r .end))
+
   abbrev pub Converted : ItemWords → Type 0
-  Converted it = shown pool it ≡ told (boundaryOf pool (rangeOf it .start)) (boundaryOf pool (rangeOf it .end))
+  Converted it = Shows (rangeOf it) it
 
-  fits : size pool ≤ size pool
-  fits = le-refl (size pool)
-
-  between-converted : (cur : ItemWords) (s e : RangeSetItem) → Starts s → Ends e → Converted (plainItem cur (itemBetween pool s e))
-  between-converted cur s e h k = go (itemBetween pool s e) (item-told pool s e h k) (item-keeps pool s e)
-    where
-      go : (m : MaybeItem) → Tells pool s e m → Keeps pool s e m → Converted (plainItem cur m)
-      go NoItem t v = absurd t
-      go (Item q) t v = rw (query-words 0 q, v .0, v .1) t
-
-  pub merged-converted : (cur it : ItemWords) → Converted (merged pool cur it)
+  merged-shows : (cur it : ItemWords) → Shows (hull pool (rangeOf cur) (rangeOf it)) (merged pool cur it) × Converted (merged pool cur it)
   unfolding merged
-  merged-converted cur it =
-      let u = hull-says (size pool) pool fits cur it in
-      let whole = hull pool (rangeOf cur) (rangeOf it) in
-      between-converted cur (whole .start) (whole .end) (u .starts) (u .ends)
+  merged-shows cur it =
+      let u = hull-says (size pool) pool (le-refl (size pool)) cur it in
+      let r = hull pool (rangeOf cur) (rangeOf it) in
+      go r (toQueryItem pool r) (item-told pool (r .start) (r .end) (u .starts) (u .ends)) (item-keeps pool (r .start) (r .end))
+    where
+      go : (r : RangeSet) (m : MaybeItem) → Tells pool (r .start) (r .end) m → Keeps pool (r .start) (r .end) m
+          → Shows r (plainItem cur m) × Converted (plainItem cur m)
+      go r NoItem t v = absurd t
+      go r (Item q) t v = (t, rw (query-words 0 q, v .0, v .1) t)
 
   -- the result is converted, or nothing merged
   pub converted-or-alone : (new cur : ItemWords) (its : List ItemWords) → Converted (mergedWith pool new cur its) ⊎ Alone pool new its
@@ -65,7 +64,7 @@ module _ (pool : List ℕ) where
       go : (f : Fate) → fateOf pool new it ≡ f → Converted (mergedWith pool new cur its) ⊎ Alone pool new its → Whole (mergeBy pool f cur it)
       go Replaced e r = more (λ g. let z : _≡_ {A = ℕ} 0 1 = cc in omega arith) r
       go Stays e r = more (λ g. let z : _≡_ {A = ℕ} 0 1 = cc in omega arith) r
-      go Merges e r = inl (merged-keeps pool Converted new (merged pool cur it) its (merged-converted cur it) (λ c x m g p. merged-converted c x))
+      go Merges e r = inl (merged-keeps pool Converted new (merged pool cur it) its (merged-shows cur it .1) (λ c x m g p. merged-shows c x .1))
 
   -- an item equal to a converted one is converted
   pub same-converted : (x y : ItemWords) → sameItem pool x y ≡ true → Converted x → Converted y
@@ -75,34 +74,30 @@ module _ (pool : List ℕ) where
   pub ranks-shown : (x y : ItemWords) → Converted x → Converted y → lo (size pool) pool x ≡ lo (size pool) pool y → hi (size pool) pool x ≡ hi (size pool) pool y
       → shown pool x ≡ shown pool y
   unfolding rk
-  ranks-shown x y c d s e = c ∙ told-same pool (size pool) fits (rangeOf x .start) (rangeOf y .start) (rangeOf x .end) (rangeOf y .end) s e ∙ sym d
+  ranks-shown x y c d s e =
+      c ∙ told-same pool (size pool) (le-refl (size pool)) (rangeOf x .start) (rangeOf y .start) (rangeOf x .end) (rangeOf y .end) s e ∙ sym d
 
-  -- ---- of lists that show the same
+-- ---- of lists that show the same, of one pool or of two
 
-  merged-shown : (c d a b : ItemWords) → shown pool c ≡ shown pool d → shown pool a ≡ shown pool b → shown pool (merged pool c a) ≡ shown pool (merged pool d b)
-  merged-shown c d a b s t =
-      let p = same-rank (size pool) pool c d (shown-same pool c d s) in
-      let q = same-rank (size pool) pool a b (shown-same pool a b t) in
-      let u = merged-spans (size pool) pool fits c a in
-      let v = merged-spans (size pool) pool fits d b in
-      ranks-shown (merged pool c a) (merged pool d b) (merged-converted c a) (merged-converted d b)
-      (omega (arith, p .0, q .0, u .0, v .0)) (omega (arith, p .1, q .1, u .1, v .1))
+module _ (P Q : List ℕ) where
+  merge-shown : (f : Fate) (c d a b : ItemWords) → shown P c ≡ shown Q d → shown P a ≡ shown Q b
+      → shown P (mergeBy P f c a) ≡ shown Q (mergeBy Q f d b)
+  merge-shown Replaced c d a b s t = s
+  merge-shown Stays c d a b s t = s
+  merge-shown Merges c d a b s t =
+      let p = shown-range P Q c d s in let q = shown-range P Q a b t in
+      let A = rangeOf a in let B = rangeOf b in let C = rangeOf c in let D = rangeOf d in
+      let low = chosen-shown P Q (compareIn Q (B .start) (D .start)) (A .start) (B .start) (C .start) (D .start) (q .0) (p .0) in
+      let high = chosen-shown P Q (compareIn Q (D .end) (B .end)) (A .end) (B .end) (C .end) (D .end) (q .1) (p .1) in
+      rw (merged-shows P c a .0, merged-shows Q d b .0, p .0, p .1, q .0, q .1, low, high)
 
-  pub result-shown : (x y c d : ItemWords) (A B : List ItemWords) → shown pool x ≡ shown pool y → shown pool c ≡ shown pool d → map (shown pool) A ≡ map (shown pool) B
-      → shown pool (mergedWith pool x c A) ≡ shown pool (mergedWith pool y d B)
+  pub result-shown : (x y c d : ItemWords) (A B : List ItemWords) → shown P x ≡ shown Q y → shown P c ≡ shown Q d → map (shown P) A ≡ map (shown Q) B
+      → shown P (mergedWith P x c A) ≡ shown Q (mergedWith Q y d B)
   unfolding mergedWith
   result-shown x y c d [] [] s t e = t
   result-shown x y c d [] (b ∷ B) s t e = absurd (omega (arith, ap length e))
   result-shown x y c d (a ∷ A) [] s t e = absurd (omega (arith, ap length e))
   result-shown x y c d (a ∷ A) (b ∷ B) s t e =
-      let head : shown pool a ≡ shown pool b = cc in
-      let tail : map (shown pool) A ≡ map (shown pool) B = cc in
-      ap (λ (f : Fate). shown pool (mergedWith pool x (mergeBy pool f c a) A)) (fate-shown pool pool x y a b s head)
-      ∙ go (fateOf pool y b) head (λ k l h. result-shown x y k l A B s h tail)
-    where
-      go : (f : Fate) → shown pool a ≡ shown pool b
-          → ((k l : ItemWords) → shown pool k ≡ shown pool l → shown pool (mergedWith pool x k A) ≡ shown pool (mergedWith pool y l B))
-          → shown pool (mergedWith pool x (mergeBy pool f c a) A) ≡ shown pool (mergedWith pool y (mergeBy pool f d b) B)
-      go Replaced h r = r c d t
-      go Stays h r = r c d t
-      go Merges h r = r (merged pool c a) (merged pool d b) (merged-shown c d a b t h)
+      let h : shown P a ≡ shown Q b = cc in
+      result-shown x y (mergeBy P (fateOf P x a) c a) (mergeBy Q (fateOf Q y b) d b) A B s
+      (rw (fate-shown P Q x y a b s h) (merge-shown (fateOf Q y b) c d a b t h)) cc

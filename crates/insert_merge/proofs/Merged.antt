@@ -18,7 +18,7 @@ use Rattle.query_item.specs.declared.RangeSetItem.{RangeSetItem}
 use Rattle.query_item.specs.declared.MaybeItem.{MaybeItem}
 use Rattle.query_item.specs.declared.MaybeItem.the-variants.{NoItem, Item}
 use Rattle.query_item.specs.Items.{queryItem, Shown, shown}
-use Rattle.query_item.specs.Boundaries.{compareIn, rangeOf, itemBetween}
+use Rattle.query_item.specs.Boundaries.{boundaryOf, compareIn, rangeOf, itemBetween}
 use Rattle.query_item.proofs.Laws.{query-words, wrapper-words, Keeps, item-keeps, Starts, Ends, Tells, item-told, item-sides}
 use Rattle.insert_order.specs.Order.{plain, sameItem, endsBelow}
 use Rattle.insert_merge.specs.declared.Fate.{Fate}
@@ -86,7 +86,7 @@ apart-fate pool new it a =
     go true f false g b h c i = refl
     go false f q g b h c i = refl
 
--- ---- fates go by what items show
+-- ---- fates go by what items show, and the boundary chosen of two by what these are, in one pool or in two
 
 pub fate-shown : (P Q : List ℕ) (x y a b : ItemWords) → shown P x ≡ shown Q y → shown P a ≡ shown Q b → fateOf P x a ≡ fateOf Q y b
 unfolding fateOf
@@ -97,6 +97,12 @@ fate-shown P Q x y a b e f = rw (
   ap (λ (s : Shown). s .1) e,
   ap (λ (s : Shown). s .1) f,
 )
+
+pub chosen-shown : (P Q : List ℕ) (o : Ordering) (s t u v : RangeSetItem) → boundaryOf P s ≡ boundaryOf Q t → boundaryOf P u ≡ boundaryOf Q v
+    → boundaryOf P (smaller o s u) ≡ boundaryOf Q (smaller o t v)
+chosen-shown P Q Less s t u v p q = p
+chosen-shown P Q Equal s t u v p q = q
+chosen-shown P Q Greater s t u v p q = q
 
 -- equal items leave every item to one fate
 pub fate-same : (pool : List ℕ) (x y it : ItemWords) → sameItem pool x y ≡ true → fateOf pool x it ≡ fateOf pool y it

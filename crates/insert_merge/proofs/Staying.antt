@@ -123,21 +123,21 @@ module _ (pool : List ℕ) where
       go Stays e r = r (mergeBy pool (fateOf pool y it) cur it)
       go Merges e r = rw (h it (inl refl) (merges-gone x it e)) (r cur)
 
-  -- ---- of lists that show the same
+-- ---- of lists that show the same, of one pool or of two
 
-  pub staying-shown : (x y : ItemWords) (A B : List ItemWords) → shown pool x ≡ shown pool y → map (shown pool) A ≡ map (shown pool) B
-      → map (shown pool) (staying pool x A) ≡ map (shown pool) (staying pool y B)
+module _ (P Q : List ℕ) where
+  keep-shown : (f : Fate) (a b : ItemWords) (A B : List ItemWords) → shown P a ≡ shown Q b → map (shown P) A ≡ map (shown Q) B
+      → map (shown P) (keepBy f a A) ≡ map (shown Q) (keepBy f b B)
+  keep-shown Replaced a b A B h r = r
+  keep-shown Stays a b A B h r = ap₂ _∷_ h r
+  keep-shown Merges a b A B h r = r
+
+  pub staying-shown : (x y : ItemWords) (A B : List ItemWords) → shown P x ≡ shown Q y → map (shown P) A ≡ map (shown Q) B
+      → map (shown P) (staying P x A) ≡ map (shown Q) (staying Q y B)
   unfolding staying
   staying-shown x y [] [] s e = refl
   staying-shown x y [] (b ∷ B) s e = absurd (omega (arith, ap length e))
   staying-shown x y (a ∷ A) [] s e = absurd (omega (arith, ap length e))
   staying-shown x y (a ∷ A) (b ∷ B) s e =
-      let head : shown pool a ≡ shown pool b = cc in
-      let tail : map (shown pool) A ≡ map (shown pool) B = cc in
-      rw (fate-shown pool pool x y a b s head) (go (fateOf pool y b) head (staying-shown x y A B s tail))
-    where
-      go : (f : Fate) → shown pool a ≡ shown pool b → map (shown pool) (staying pool x A) ≡ map (shown pool) (staying pool y B)
-          → map (shown pool) (keepBy f a (staying pool x A)) ≡ map (shown pool) (keepBy f b (staying pool y B))
-      go Replaced h r = r
-      go Stays h r = ap₂ _∷_ h r
-      go Merges h r = r
+      let h : shown P a ≡ shown Q b = cc in
+      rw (fate-shown P Q x y a b s h) (keep-shown (fateOf Q y b) a b (staying P x A) (staying Q y B) h (staying-shown x y A B s cc))

@@ -105,34 +105,34 @@ module _ (pool : List ℕ) where
 
   -- ---- the list
 
-  pub items-good : (i : ℕ) (its : List ItemWords) → firstBad pool 0 i its ≡ accepted → (x : ItemWords) → Among x its → Good x
+  pub items-good : (i : ℕ) (its : List ItemWords) → firstBad (uprightFault pool) 0 i its ≡ accepted → (x : ItemWords) → Among x its → Good x
   unfolding firstBad
   items-good i [] e x m = absurd m
   items-good i (it ∷ its) e x m = go (uprightFault pool it) refl e m (λ q n. items-good (suc i) its q x n)
     where
-      go : (f : ℕ) → uprightFault pool it ≡ f → andThen (faultAt f 0 i) (firstBad pool 0 (suc i) its) ≡ accepted → (x ≡ it) ⊎ Among x its
-          → (firstBad pool 0 (suc i) its ≡ accepted → Among x its → Good x) → Good x
+      go : (f : ℕ) → uprightFault pool it ≡ f → andThen (faultAt f 0 i) (firstBad (uprightFault pool) 0 (suc i) its) ≡ accepted → (x ≡ it) ⊎ Among x its
+          → (firstBad (uprightFault pool) 0 (suc i) its ≡ accepted → Among x its → Good x) → Good x
       go zero p q (inl s) r = rw s (good it p)
       go zero p q (inr n) r = r q n
       go (suc f) p q n r = absurd (let z : _≡_ {A = ℕ} 0 1 = cc in omega arith)
 
-  pub good-items : (i : ℕ) (its : List ItemWords) → ((x : ItemWords) → Among x its → Good x) → firstBad pool 0 i its ≡ accepted
+  pub good-items : (i : ℕ) (its : List ItemWords) → ((x : ItemWords) → Among x its → Good x) → firstBad (uprightFault pool) 0 i its ≡ accepted
   unfolding firstBad
   good-items i [] f = refl
   good-items i (it ∷ its) f = rw (good-fault it (f it (inl refl))) (good-items (suc i) its (λ x m. f x (inr m)))
 
-  pub items-upright : (i : ℕ) (its : List ItemWords) → firstBad pool 0 i its ≡ accepted → (x : ItemWords) → Among x its → lo (size pool) pool x ≤ hi (size pool) pool x
+  pub items-upright : (i : ℕ) (its : List ItemWords) → firstBad (uprightFault pool) 0 i its ≡ accepted → (x : ItemWords) → Among x its → lo (size pool) pool x ≤ hi (size pool) pool x
   items-upright i its e x m = upright-ranks x (good-fault x (items-good i its e x m))
 
-  pub upright-at : (ws : List ℕ) (count : ℕ) → firstBad pool 0 0 (itemsFrom ws 0 count) ≡ accepted → (j : ℕ) → j < count
+  pub upright-at : (ws : List ℕ) (count : ℕ) → firstBad (uprightFault pool) 0 0 (itemsFrom ws 0 count) ≡ accepted → (j : ℕ) → j < count
       → lo (size pool) pool (itemAt ws j) ≤ hi (size pool) pool (itemAt ws j)
   upright-at ws count e j h = items-upright 0 (itemsFrom ws 0 count) e (itemAt ws j) (among-at pool ws 0 count j (omega arith) (omega arith))
 
-  pub accepted-items : (its : List ItemWords) → orderedVerdict pool its ≡ accepted → firstBad pool 0 0 its ≡ accepted
-  accepted-items its e = accepts (firstBad pool 0 0 its) (orderVerdict pool its) .0 e .0
+  pub accepted-items : (its : List ItemWords) → orderedVerdict pool its ≡ accepted → firstBad (uprightFault pool) 0 0 its ≡ accepted
+  accepted-items its e = accepts (firstBad (uprightFault pool) 0 0 its) (orderVerdict pool its) .0 e .0
 
   pub accepted-order : (its : List ItemWords) → orderedVerdict pool its ≡ accepted → orderVerdict pool its ≡ accepted
-  accepted-order its e = accepts (firstBad pool 0 0 its) (orderVerdict pool its) .0 e .1
+  accepted-order its e = accepts (firstBad (uprightFault pool) 0 0 its) (orderVerdict pool its) .0 e .1
 
   pub accepted-sorted : (its : List ItemWords) → orderedVerdict pool its ≡ accepted → Sorted pool its
   accepted-sorted its e = ordered-sorted pool its (accepted-ordered pool 0 [] its (accepted-order its e) .1)
@@ -164,3 +164,10 @@ module _ (pool ws : List ℕ) (count : ℕ) (new : ItemWords) (e : inputVerdict 
 
   pub input-new : uprightFault pool new ≡ 0
   input-new = fault-passes (uprightFault pool new) 1 0 .0 (accepts (orderedVerdict pool (itemsFrom ws 0 count)) _ .0 past-buffer .1)
+
+-- ---- a list that an insertion accepts: pool, count and items pass the checks
+
+pub record Ready (pool ws : List ℕ) (count : ℕ) : Type 0 where
+  pub small : poolVerdict pool ≡ accepted
+  pub within : bufferVerdict ws count ≡ accepted
+  pub listed : orderedVerdict pool (itemsFrom ws 0 count) ≡ accepted

@@ -1,5 +1,6 @@
 pub mod Reading
 pub mod Ranked
+pub mod Shown
 pub mod Seen
 pub mod Ordered
 pub mod Accepted

@@ -24,7 +24,7 @@ orderVerdict pool its = firstClash pool 0 [] its
 -- 01 refusal.6, refusal.7: the pool, the list's shape, its items one by one, 4, then the new item, which is side 1 and index 0
 
 abbrev pub orderedVerdict : List ℕ → List ItemWords → Verdict
-orderedVerdict pool its = andThen (firstBad pool 0 0 its) (orderVerdict pool its)
+orderedVerdict pool its = andThen (firstBad (uprightFault pool) 0 0 its) (orderVerdict pool its)
 
 abbrev pub inputVerdict : List ℕ → List ℕ → ℕ → ItemWords → Verdict
 inputVerdict pool ws count new =

@@ -9,7 +9,7 @@ ghost use mathlib.Core.Path.{_≡_};
 ghost use Prim.Native.Nat.{_-_};
 ghost use Rattle.query_item.specs.Items.{itemsFrom};
 ghost use Rattle.query_item.specs.Boundaries.{rangeOf};
-ghost use Rattle.item_check.specs.Checks.{verdictOf, accepted, firstBad};
+ghost use Rattle.item_check.specs.Checks.{verdictOf, accepted, uprightFault, firstBad};
 ghost use Rattle.insert_order.specs.Order.{orderItems, plain, sameItem, endsBelow};
 ghost use Rattle.insert_order.specs.Refusals.{bufferVerdict, orderVerdict, orderedVerdict, inputVerdict};
 ghost use Rattle.insert_order.specs.Passes.{followsPlain, isGreater, lastOrder, runStart, meetsPlain, lastPlain, repeats, quickClash};
@@ -70,7 +70,7 @@ fn check_ordered(pool: &[u8], words: &[u32], count: usize) -> Checked
 // plain too, breaks no rule. Otherwise only the last of the earlier ones, the last plain one and the run of items of the same range, at
 // most seven, have to be asked.
 fn check_order(pool: &[u8], words: &[u32], count: usize) -> Checked
-    requires { ⌜ firstBad (now pool) 0 0 (itemsFrom (now words) 0 count) ≡ accepted ⌝ }
+    requires { ⌜ firstBad (uprightFault (now pool)) 0 0 (itemsFrom (now words) 0 count) ≡ accepted ⌝ }
     ensures { λ r. ⌜ verdictOf r ≡ orderVerdict (now (pool .entry)) (itemsFrom (now (words .entry)) 0 count) ⌝ }
 {
     let mut run: usize = 0;

@@ -3,3 +3,4 @@ pub mod Ranked
 pub mod Intervals
 pub mod Held
 pub mod Apart
+pub mod Seen

@@ -218,12 +218,12 @@ module _ (pool : List ℕ) where
 
   -- ---- 2 and 3: the same list, item by item, by kind and key bytes
 
-  same-words : (S T : List RangeSet) → FineAll S → FineAll T → ivsOf (keyed pool S) ≡ ivsOf (keyed pool T)
+  same-words : (S T : List RangeSet) → ivsOf (keyed pool S) ≡ ivsOf (keyed pool T)
       → SameItems pool (wordsAll (keyedItems pool S)) (wordsAll (keyedItems pool T))
   unfolding keyedItems
-  same-words S T h k e =
+  same-words S T e =
       rw (items-of-words (keyedItems pool S), items-of-words (keyedItems pool T))
-      (same-shown pool (size pool) at (keyed pool S) (keyed pool T) (fine-keyed pool (size pool) at S h) (fine-keyed pool (size pool) at T k) e)
+      (same-shown pool (size pool) at (keyed pool S) (keyed pool T) e)
 
   -- with others in place of S and T, the same as intervals, what is shared or kept is the same, and the same is left out
 
@@ -238,21 +238,21 @@ module _ (pool : List ℕ) where
         same-keyed pool (size pool) at (keeping S T) (keeping S′ T′)
         (without-carried pool (size pool) at S T s t ∙ e ∙ sym (without-carried pool (size pool) at S′ T′ s′ t′))
 
-  module _ (A B C D : List ℕ) (a : Accepted pool A) (b : Accepted pool B) (c : Accepted pool C) (d : Accepted pool D) where
+  module _ (A B C D : List ℕ) where
     shared-same : ivsOf (keyed pool (sharedSets pool A B)) ≡ ivsOf (keyed pool (sharedSets pool C D))
         → SameItems pool (sharedWords pool A B) (sharedWords pool C D)
     unfolding sharedItems
-    shared-same e = same-words (sharedSets pool A B) (sharedSets pool C D) (both A B a b) (both C D c d) e
+    shared-same e = same-words (sharedSets pool A B) (sharedSets pool C D) e
 
     without-same : ivsOf (keyed pool (onlySets pool A B)) ≡ ivsOf (keyed pool (onlySets pool C D))
         → SameItems pool (withoutWords pool A B) (withoutWords pool C D)
     unfolding onlyItems
-    without-same e = same-words (onlySets pool A B) (onlySets pool C D) (only A B a b) (only C D c d) e
+    without-same e = same-words (onlySets pool A B) (onlySets pool C D) e
 
   -- sharing gives the same list in either order
   pub shared-comm : (A B : List ℕ) → Accepted pool A → Accepted pool B → SameItems pool (sharedWords pool A B) (sharedWords pool B A)
   shared-comm A B a b =
-      shared-same A B B A a b b a
+      shared-same A B B A
       (sharing-same (setsOf A) (setsOf B) (setsOf B) (setsOf A) (fine-of A a) (fine-of B b) (fine-of B b) (fine-of A a)
       (intervals.shared-comm (spans A) (spans B) (strict-of A a) (strict-of B b)))
 
@@ -293,7 +293,7 @@ module _ (pool : List ℕ) where
     shared-assoc f g =
         let ab = shared-accepted A B a b f in
         let bc = shared-accepted B C b c g in
-        shared-same (sharedWords pool A B) C A (sharedWords pool B C) ab c a bc
+        shared-same (sharedWords pool A B) C A (sharedWords pool B C)
         (shared-first A B C a b c ab
         ∙ sharing-same (sharedSets pool A B) (setsOf C) (setsOf A) (sharedSets pool B C)
         (both A B a b) (fine-of C c) (fine-of A a) (both B C b c)
@@ -306,7 +306,7 @@ module _ (pool : List ℕ) where
     without-swap f g =
         let ab = without-accepted A B a b f in
         let ac = without-accepted A C a c g in
-        without-same (withoutWords pool A B) C (withoutWords pool A C) B ab c ac b
+        without-same (withoutWords pool A B) C (withoutWords pool A C) B
         (without-first A B C a b c ab
         ∙ keeping-same (onlySets pool A B) (setsOf C) (onlySets pool A C) (setsOf B)
         (only A B a b) (fine-of C c) (only A C a c) (fine-of B b)

@@ -1,6 +1,6 @@
 -- DEMAND 3 (01 demand.3, tight.7, 02 §2.5), as laws of the lists that `intersect_many_ordered` writes, for any accepted lists A, B, C over one pool.
--- What a reader must believe is in specs/Demand.antt and specs/Lists.antt; each law is proved in Called.antt, Room.antt or Demanded.antt. Assumes
--- nothing.
+-- What a reader must believe is in specs/Demand.antt and specs/Lists.antt; each law is proved in Called.antt, Room.antt or Demanded.antt. The laws
+-- of Shown.antt, of any lists over two pools, are passed on. Assumes nothing.
 use Prim.Native.Nat.{ℕ, _*_}
 use mathlib.Core.Path.{_≡_}
 use mathlib.Core.Bool.{false, not, _&&_, _||_}
@@ -15,6 +15,8 @@ use Rattle.intersect_many.specs.Demand.{sharedWords, withoutWords, Accep
 use Rattle.intersect_many.proofs.Room.{length-words}
 use Rattle.intersect_many.proofs.Called as called
 use Rattle.intersect_many.proofs.Demanded as demanded
+-- the lists and the answer go by what the given lists show, whatever pool their keys stand in
+pub use Rattle.intersect_many.proofs.Shown.{shared-shown, only-shown, many-answer-shown}
 
 module _ (pool A B : List ℕ) (a : Accepted pool A) (b : Accepted pool B) (both mine yours : List ℕ)
     (room : lacksRoom (countsOf pool A B) both mine yours ≡ false) where

@@ -1,81 +1,147 @@
--- An item that is converted from two boundaries is told by their bytes and kinds alone, and those by their ranks: lists of ranges that are
--- the same as intervals are written as the same items, by kind and key bytes. Assumes nothing.
+-- The three lists go by what the given lists show: kind, wrapper and key bytes, whatever pool the keys stand in. Ranges are seen as their
+-- boundaries (Seen.antt of `query_item`), which tell what is shared, what is left over, what holds no key, and the items that are written.
+-- Ranges that are the same as intervals are seen the same, and so are written as the same items. Assumes nothing.
 use Prim.Native.Nat.{ℕ, _+_, _≤_}
 use mathlib.Core.Path.{_≡_, refl, sym, ap, ap₂, _∙_}
-use mathlib.Core.Bool.{Bool, true, false, cond, not}
-use mathlib.Core.List.{List, [], _∷_, map, map-append}
+use mathlib.Core.List.{List, [], _∷_, _++_, map, map-append, map-map, flatMap}
 use native.Mathlib.Omega.{arith}
-use lib.ListN.{length}
+use lib.ListN.{length, length-map}
+use Rattle.key_order.specs.Boundary.{Boundary}
 use Rattle.key_order.proofs.Line.{size}
-use Rattle.query_item.specs.declared.RangeSetItem.{RangeSetItem}
+use Rattle.key_order.proofs.Ranks.{rank}
+use Rattle.query_item.specs.declared.QueryItem.{QueryItem}
 use Rattle.query_item.specs.declared.RangeSet.{RangeSet}
 use Rattle.query_item.specs.declared.MaybeItem.{MaybeItem}
 use Rattle.query_item.specs.declared.MaybeItem.the-variants.{NoItem, Item}
-use Rattle.query_item.specs.Items.{wordsOf, Shown, shown}
-use Rattle.query_item.specs.Boundaries.{boundaryOf, fromTo, itemBetween, toQueryItem}
-use Rattle.query_item.proofs.Laws.{told, Tells, item-told, rankIn, rank-same-in, told-same}
-use Rattle.intervals.specs.Lists.{keep}
-use Rattle.intervals.proofs.Laws.{All}
-use Rattle.item_lists.specs.Written.{asItems}
-use Rattle.keyless.specs.Keyless.{keyless, keyed}
-use Rattle.keyless.proofs.Laws.{keyless-same}
-use Rattle.intersect_many.specs.Lists.{convertAll}
-use Rattle.intersect_many.proofs.Carried.{iv, Fine}
+use Rattle.query_item.specs.Items.{wordsOf, shown}
+use Rattle.query_item.specs.Boundaries.{toQueryItem}
+use Rattle.query_item.proofs.Laws.{Sides, seen, toldItem, shownItem, item-seen, ranges-seen, rank-same-in}
+use Rattle.intervals.specs.Intervals.{Interval}
+use Rattle.intervals.specs.Lists.{sharedOf, withoutOf}
+use Rattle.intervals.proofs.Laws.{All, all-of, map-shared, map-without}
+use Rattle.item_check.specs.Checks.{andThen, answered, itemsOf}
+use Rattle.item_lists.specs.Written.{asItems, plain}
+use Rattle.keyless.specs.Keyless.{keyed}
+use Rattle.keyless.proofs.Laws.{keyedSides, keyed-seen}
+use Rattle.intersect.specs.Pair.{meetSets, leftOver, rightOver}
+use Rattle.intersect.proofs.Seen.{meetSides, leftSides, rightSides, meet-seen, left-seen, right-seen}
+use Rattle.intersect_many.specs.declared.ManyCounts.{ManyCounts}
+use Rattle.intersect_many.specs.Lists.{setsOf, sharedSets, cutSets, onlySets, convertAll, keyedItems, sharedItems, onlyItems}
+use Rattle.intersect_many.specs.Lists.{listsVerdict, roomVerdict, countsOf, manyAnswer}
+use Rattle.intersect_many.proofs.Written.{length-plain}
+use Rattle.intersect_many.proofs.Carried.{iv}
+
+-- ---- lists of ranges, seen as boundaries
+
+abbrev cutSides : Sides → Sides → List Sides
+cutSides a b = leftSides a b ++ rightSides a b
+
+module _ (pool : List ℕ) where
+  cut-seen : (a b : RangeSet) → map (seen pool) (cutSets pool a b) ≡ cutSides (seen pool a) (seen pool b)
+  cut-seen a b = map-append (seen pool) (leftOver pool a b) (rightOver pool a b) ∙ ap₂ _++_ (left-seen pool a b) (right-seen pool a b)
+
+  any : (S : List RangeSet) → All (λ s. Unit {0}) S
+  any S = all-of (λ s. Unit {0}) S (λ s. tt)
+
+  shared-seen : (S T : List RangeSet) → map (seen pool) (sharedOf (meetSets pool) S T) ≡ sharedOf meetSides (map (seen pool) S) (map (seen pool) T)
+  shared-seen S T = map-shared (seen pool) (seen pool) (λ s. Unit {0}) (meetSets pool) meetSides (λ a b p q. meet-seen pool a b) S T (any S) (any T)
+
+  without-seen : (S T : List RangeSet) → map (seen pool) (withoutOf (cutSets pool) S T) ≡ withoutOf cutSides (map (seen pool) S) (map (seen pool) T)
+  without-seen S T =
+      map-without (seen pool) (λ s. Unit {0}) (cutSets pool) cutSides (λ a b p q. any (cutSets pool a b)) (λ a b p q. cut-seen a b) S T (any S) (any T)
+
+  -- the items that are written
+  items-seen : (S : List RangeSet) → map (shown pool) (plain (convertAll pool S)) ≡ flatMap toldItem (map (seen pool) S)
+  unfolding convertAll flatMap
+  items-seen [] = refl
+  items-seen (s ∷ S) =
+      ap (map (shown pool)) (map-append (wordsOf 0) (asItems (toQueryItem pool s)) (convertAll pool S))
+      ∙ map-append (shown pool) (plain (asItems (toQueryItem pool s))) (plain (convertAll pool S))
+      ∙ ap₂ _++_ (one (toQueryItem pool s) ∙ item-seen pool s) (items-seen S)
+    where
+      one : (m : MaybeItem) → map (shown pool) (plain (asItems m)) ≡ shownItem pool m
+      one NoItem = refl
+      one (Item q) = refl
+
+  keyed-items-seen : (S : List RangeSet) → map (shown pool) (plain (keyedItems pool S)) ≡ flatMap toldItem (keyedSides (map (seen pool) S))
+  unfolding keyedItems
+  keyed-items-seen S = items-seen (keyed pool S) ∙ ap (flatMap toldItem) (keyed-seen pool S)
+
+-- ---- of lists that show the same, of one pool or of two
+
+module _ (P Q : List ℕ) where
+  result-shown : (S T : List RangeSet) → map (seen P) S ≡ map (seen Q) T → map (shown P) (plain (keyedItems P S)) ≡ map (shown Q) (plain (keyedItems Q T))
+  result-shown S T e = keyed-items-seen P S ∙ ap (λ (L : List Sides). flatMap toldItem (keyedSides L)) e ∙ sym (keyed-items-seen Q T)
+
+  module _ (A B A′ B′ : List ℕ) (a : map (shown P) (itemsOf A) ≡ map (shown Q) (itemsOf A′))
+      (b : map (shown P) (itemsOf B) ≡ map (shown Q) (itemsOf B′)) where
+    ours : map (seen P) (setsOf A) ≡ map (seen Q) (setsOf A′)
+    ours = ranges-seen P Q (itemsOf A) (itemsOf A′) a
+
+    theirs : map (seen P) (setsOf B) ≡ map (seen Q) (setsOf B′)
+    theirs = ranges-seen P Q (itemsOf B) (itemsOf B′) b
+
+    -- what is shared shows the same
+    pub shared-shown : map (shown P) (plain (sharedItems P A B)) ≡ map (shown Q) (plain (sharedItems Q A′ B′))
+    unfolding sharedItems
+    shared-shown =
+        result-shown (sharedSets P A B) (sharedSets Q A′ B′)
+        (shared-seen P (setsOf A) (setsOf B) ∙ ap₂ (sharedOf meetSides) ours theirs ∙ sym (shared-seen Q (setsOf A′) (setsOf B′)))
+
+    -- and so does what ours keeps without theirs; with sides exchanged, what theirs keeps without ours
+    pub only-shown : map (shown P) (plain (onlyItems P A B)) ≡ map (shown Q) (plain (onlyItems Q A′ B′))
+    unfolding onlyItems
+    only-shown =
+        result-shown (onlySets P A B) (onlySets Q A′ B′)
+        (without-seen P (setsOf A) (setsOf B) ∙ ap₂ (withoutOf cutSides) ours theirs ∙ sym (without-seen Q (setsOf A′) (setsOf B′)))
+
+  as-many : (X Y : List QueryItem) → map (shown P) (plain X) ≡ map (shown Q) (plain Y) → length X ≡ length Y
+  as-many X Y e = omega (arith, ap length e, length-map (plain X) (shown P), length-map (plain Y) (shown Q), length-plain X, length-plain Y)
+
+  module _ (A B A′ B′ : List ℕ) (a : map (shown P) (itemsOf A) ≡ map (shown Q) (itemsOf A′))
+      (b : map (shown P) (itemsOf B) ≡ map (shown Q) (itemsOf B′)) where
+    counts-shown : countsOf P A B ≡ countsOf Q A′ B′
+    counts-shown =
+        let e = as-many (sharedItems P A B) (sharedItems Q A′ B′) (shared-shown A B A′ B′ a b) in
+        let f = as-many (onlyItems P A B) (onlyItems Q A′ B′) (only-shown A B A′ B′ a b) in
+        let g = as-many (onlyItems P B A) (onlyItems Q B′ A′) (only-shown B A B′ A′ b a) in
+        λ i. record { «in_both» = e i; ours = f i; theirs = g i }
+
+    -- The call gives the same answer, in any room. That the verdicts are the same is a premise, since what a list shows does not tell the size of
+    -- its pool, words after the last whole item, whether a key reaches past the pool, or whether the words of an absent key are 0
+    pub many-answer-shown : listsVerdict P A B ≡ listsVerdict Q A′ B′ → (both mine yours : List ℕ)
+        → manyAnswer P A B both mine yours ≡ manyAnswer Q A′ B′ both mine yours
+    many-answer-shown v both mine yours =
+        rw v (ap (λ (m : ManyCounts). andThen (listsVerdict Q A′ B′) (andThen (roomVerdict m both mine yours) (answered m))) counts-shown)
+
+-- ---- of ranges that are the same as intervals
 
 module _ (pool : List ℕ) (n : ℕ) (fits : size pool ≤ n) where
-  abbrev rk : RangeSetItem → ℕ
-  rk x = rankIn pool n fits x
-
-  abbrev toldOf : RangeSet → Shown
-  toldOf s = told (boundaryOf pool (s .start)) (boundaryOf pool (s .end))
-
-  one-told : (s e : RangeSetItem) → Fine pool n fits (fromTo s e) → map (shown pool) (map (wordsOf 0) (asItems (itemBetween pool s e))) ≡ toldOf (fromTo s e) ∷ []
-  one-told s e f = go (itemBetween pool s e) (item-told pool s e (f .good .starts) (f .good .ends))
-    where
-      go : (m : MaybeItem) → Tells pool s e m → map (shown pool) (map (wordsOf 0) (asItems m)) ≡ toldOf (fromTo s e) ∷ []
-      go NoItem t = absurd t
-      go (Item q) t = ap (λ (h : Shown). h ∷ []) t
-
-  list-told : (S : List RangeSet) → All (Fine pool n fits) S → map (shown pool) (map (wordsOf 0) (convertAll pool S)) ≡ map toldOf S
-  unfolding convertAll
-  list-told [] h = refl
-  list-told (s ∷ S) h =
-      ap (map (shown pool)) (map-append (wordsOf 0) (asItems (toQueryItem pool s)) (convertAll pool S))
-      ∙ map-append (shown pool) (map (wordsOf 0) (asItems (toQueryItem pool s))) (map (wordsOf 0) (convertAll pool S))
-      ∙ rw (one-told (s .start) (s .end) (h .0), list-told S (h .1))
-
-  same-told : (S T : List RangeSet) → map (iv pool n fits) S ≡ map (iv pool n fits) T → map toldOf S ≡ map toldOf T
-  same-told [] [] e = refl
-  same-told [] (t ∷ T) e = absurd (omega (arith, ap length e))
-  same-told (s ∷ S) [] e = absurd (omega (arith, ap length e))
-  same-told (s ∷ S) (t ∷ T) e =
+  same-seen : (S T : List RangeSet) → map (iv pool n fits) S ≡ map (iv pool n fits) T → map (seen pool) S ≡ map (seen pool) T
+  same-seen [] [] e = refl
+  same-seen [] (t ∷ T) e = absurd (omega (arith, ap length e))
+  same-seen (s ∷ S) [] e = absurd (omega (arith, ap length e))
+  same-seen (s ∷ S) (t ∷ T) e =
       let head : iv pool n fits s ≡ iv pool n fits t = cc in
       let tail : map (iv pool n fits) S ≡ map (iv pool n fits) T = cc in
-      let starts : rk (s .start) ≡ rk (t .start) = ap (λ (p : ℕ × ℕ). p .0) head in
-      let ends : rk (s .end) + 1 ≡ rk (t .end) + 1 = ap (λ (p : ℕ × ℕ). p .1) head in
-      ap₂ _∷_ (told-same pool n fits (s .start) (t .start) (s .end) (t .end) starts (omega arith)) (same-told S T tail)
+      let ends = ap (λ (p : Interval). p .1) head in
+      ap₂ _∷_ (ap₂ (λ (s e : Boundary). (s, e))
+      (rank-same-in pool n fits (s .start) (t .start) (ap (λ (p : Interval). p .0) head))
+      (rank-same-in pool n fits (s .end) (t .end) (omega arith)))
+      (same-seen S T tail)
 
-  -- the same intervals, the same ones without a key
+  -- the same ones are without a key
   pub same-keyed : (S T : List RangeSet) → map (iv pool n fits) S ≡ map (iv pool n fits) T
       → map (iv pool n fits) (keyed pool S) ≡ map (iv pool n fits) (keyed pool T)
-  unfolding keep
-  same-keyed [] [] e = refl
-  same-keyed [] (t ∷ T) e = absurd (omega (arith, ap length e))
-  same-keyed (s ∷ S) [] e = absurd (omega (arith, ap length e))
-  same-keyed (s ∷ S) (t ∷ T) e =
-      let head : iv pool n fits s ≡ iv pool n fits t = cc in
-      let tail : map (iv pool n fits) S ≡ map (iv pool n fits) T = cc in
-      let starts : rk (s .start) ≡ rk (t .start) = ap (λ (p : ℕ × ℕ). p .0) head in
-      let ends : rk (s .end) + 1 ≡ rk (t .end) + 1 = ap (λ (p : ℕ × ℕ). p .1) head in
-      rw (keyless-same pool s t (rank-same-in pool n fits (s .start) (t .start) starts) (rank-same-in pool n fits (s .end) (t .end) (omega arith)))
-      (go (keyless pool t) head (same-keyed S T tail))
+  same-keyed S T e =
+      sym (map-map ranks (seen pool) (keyed pool S))
+      ∙ ap (map ranks) (keyed-seen pool S ∙ ap keyedSides (same-seen S T e) ∙ sym (keyed-seen pool T))
+      ∙ map-map ranks (seen pool) (keyed pool T)
     where
-      go : (k : Bool) → iv pool n fits s ≡ iv pool n fits t → map (iv pool n fits) (keyed pool S) ≡ map (iv pool n fits) (keyed pool T)
-          → map (iv pool n fits) (cond (not k) (s ∷ keyed pool S) (keyed pool S)) ≡ map (iv pool n fits) (cond (not k) (t ∷ keyed pool T) (keyed pool T))
-      go true h e = e
-      go false h e = ap₂ _∷_ h e
+      ranks : Sides → Interval
+      ranks b = (rank n (b .0), rank n (b .1) + 1)
 
-  -- the same intervals, the same items
-  pub same-shown : (S T : List RangeSet) → All (Fine pool n fits) S → All (Fine pool n fits) T → map (iv pool n fits) S ≡ map (iv pool n fits) T
-      → map (shown pool) (map (wordsOf 0) (convertAll pool S)) ≡ map (shown pool) (map (wordsOf 0) (convertAll pool T))
-  same-shown S T h k e = list-told S h ∙ same-told S T e ∙ sym (list-told T k)
+  -- and the items are the same
+  pub same-shown : (S T : List RangeSet) → map (iv pool n fits) S ≡ map (iv pool n fits) T
+      → map (shown pool) (plain (convertAll pool S)) ≡ map (shown pool) (plain (convertAll pool T))
+  same-shown S T e = items-seen pool S ∙ ap (flatMap toldItem) (same-seen S T e) ∙ sym (items-seen pool T)

@@ -3,7 +3,7 @@
 use Prim.Native.Nat.{suc, _+_}
 use mathlib.Core.Path.{_≡_, refl, sym, ap, ap₂, _∙_}
 use mathlib.Core.Bool.{Bool, true, false, cond, not}
-use mathlib.Core.List.{List, [], _∷_, _++_}
+use mathlib.Core.List.{List, [], _∷_, _++_, map}
 use native.Mathlib.Omega.{arith}
 use lib.ListN.{length}
 use Rattle.intervals.specs.Lists.{meetsOf, sharedOf, cutsOf, withoutOf, keep}
@@ -57,6 +57,17 @@ module _ {X : Type 0} (f : X → Bool) where
       go : (t : Bool) → f a ≡ t → All (λ x. f x ≡ true) (keep f A) → All (λ x. f x ≡ true) (cond t (a ∷ keep f A) (keep f A))
       go true e k = (e, k)
       go false e k = k
+
+-- a test of what things are read as
+pub map-keep : {X Y : Type 0} (g : X → Y) (f : Y → Bool) (A : List X) → map g (keep (λ x. f (g x)) A) ≡ keep f (map g A)
+unfolding keep
+map-keep g f [] = refl
+map-keep g f (a ∷ A) = go (f (g a)) (map-keep g f A)
+  where
+    go : (t : Bool) → map g (keep (λ x. f (g x)) A) ≡ keep f (map g A)
+        → map g (cond t (a ∷ keep (λ x. f (g x)) A) (keep (λ x. f (g x)) A)) ≡ cond t (g a ∷ keep f (map g A)) (keep f (map g A))
+    go true e = ap (_∷_ (g a)) e
+    go false e = e
 
 -- ---- what ours that is dropped shares is dropped
 

@@ -22,9 +22,9 @@ use Rattle.intervals.proofs.Uncovers.{cuts-apart, length-cuts}
 use Rattle.intervals.proofs.Passes.{interval-above, meeting, cutting}
 pub use Rattle.intervals.proofs.Lists.{meets-append, shared-append, shared-nil}
 pub use Rattle.intervals.proofs.Lists.{cuts-append, without-append, without-nil}
-pub use Rattle.intervals.proofs.Lists.{All, all-append, all-shared, all-without, map-shared, map-without}
+pub use Rattle.intervals.proofs.Lists.{All, all-append, all-of, all-shared, all-without, map-shared, map-without}
 pub use Rattle.intervals.proofs.Reordered.{reordered-two, reordered-by, length-reordered, all-reordered}
-pub use Rattle.intervals.proofs.Kept.{Dropped, keep-append, keep-parts, all-keep, keep-passes, keep-shared, keep-shared-second, keep-without}
+pub use Rattle.intervals.proofs.Kept.{Dropped, keep-append, map-keep, keep-parts, all-keep, keep-passes, keep-shared, keep-shared-second, keep-without}
 unfoldable pub use Rattle.intervals.proofs.Sweeps.{sweepFrom, sweepOf, stripFrom, stripOf}
 pub use Rattle.intervals.proofs.Sweeps.{AboveOf, BelowOf, Spanned, Meeting, Cutting}
 pub use Rattle.intervals.proofs.Sweeps.{sweep-first, sweep-second, sweep-nil, sweep-is-shared, sweep-skip}

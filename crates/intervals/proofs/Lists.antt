@@ -46,6 +46,11 @@ pub all-append : {X : Type 0} (P : X → Type 0) (A B : List X) → All P A → 
 all-append P [] B h k = k
 all-append P (a ∷ A) B h k = (h .0, all-append P A B (h .1) k)
 
+-- what holds of all things
+pub all-of : {X : Type 0} (P : X → Type 0) (A : List X) → ((a : X) → P a) → All P A
+all-of P [] h = tt
+all-of P (a ∷ A) h = (h a, all-of P A h)
+
 module _ {X Y : Type 0} (P : X → Type 0) (Q : Y → Type 0) (meet : X → X → List Y) (kept : (a b : X) → P a → P b → All Q (meet a b)) where
   all-meets : (a : X) (B : List X) → P a → All P B → All Q (meetsOf meet a B)
   unfolding meetsOf

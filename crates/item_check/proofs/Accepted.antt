@@ -13,14 +13,14 @@ use Rattle.query_item.specs.declared.ItemWords.{ItemWords}
 use Rattle.query_item.specs.declared.RangeSetItem.{RangeSetItem}
 use Rattle.query_item.specs.Items.{itemSize}
 use Rattle.query_item.specs.Boundaries.{compareIn, rangeOf, upright}
+use Rattle.intervals.proofs.Laws.{All}
 use Rattle.item_check.proofs.Scans.{fault-passes}
-use Rattle.item_check.specs.Checks.{Answer, Verdict, answered, refused, accepted, andThen, mostItems, mostPool, malformed, outside, uprightFault, faultAt}
+use Rattle.item_check.specs.Checks.{Answer, Verdict, answered, refused, accepted, andThen, wordsBy, mostItems, mostPool, malformed, outside, itemFault, uprightFault, faultAt}
 use Rattle.item_check.specs.Checks.{poolVerdict, shapeVerdict, firstBad, firstBreak, strictVerdict, itemsOf, wholeVerdict, listVerdict}
 
 -- each item is sound: nothing of 1, 2, 3 is wrong with it
 abbrev pub AllSound : List ℕ → List ItemWords → Type 0
-AllSound pool [] = Unit {0}
-AllSound pool (it ∷ its) = (uprightFault pool it ≡ 0) × AllSound pool its
+AllSound pool its = All (λ it. uprightFault pool it ≡ 0) its
 
 -- each item starts above the end of the one before it, the first above e
 abbrev pub Following : List ℕ → RangeSetItem → List ItemWords → Type 0
@@ -49,6 +49,23 @@ pub answers : {A : Type 0} (v : Verdict) (a : Answer A) (p : A) → andThen v a 
 answers (answered u) a p e = (refl, e)
 answers (refused n s i) a p e = absurd (let z : _≡_ {A = ℕ} 0 1 = cc in omega arith)
 
+-- what a call leaves in words lent to it, where it refuses and where it answers
+
+pub words-refused : {A : Type 0} {r : Answer A} {n s i : ℕ} → r ≡ refused n s i → (before after : List ℕ) → wordsBy r before after ≡ before
+words-refused e before after = rw e
+
+pub words-answered : {A : Type 0} {r : Answer A} {a : A} → r ≡ answered a → (before after : List ℕ) → wordsBy r before after ≡ after
+words-answered e before after = rw e
+
+-- an item that nothing of 1, 2 is wrong with
+pub fault-parts : (pool : List ℕ) (it : ItemWords) → itemFault pool it ≡ 0 → (malformed it ≡ false) × (outside pool it ≡ false)
+fault-parts pool it e = go (malformed it) (outside pool it) refl refl
+  where
+    go : (m o : Bool) → malformed it ≡ m → outside pool it ≡ o → (malformed it ≡ false) × (outside pool it ≡ false)
+    go true o p q = absurd (omega (arith, simp p at e))
+    go false true p q = absurd (omega (arith, simp (p, q) at e))
+    go false false p q = (p, q)
+
 -- an item that nothing of 1, 2, 3 is wrong with
 pub sound-parts : (pool : List ℕ) (it : ItemWords) → uprightFault pool it ≡ 0
     → (malformed it ≡ false) × (outside pool it ≡ false) × (upright pool (rangeOf it) ≡ true)
@@ -76,16 +93,24 @@ or-false false q = (λ e. (refl, e), λ e. e .1)
 
 -- ---- a list
 
-module _ (pool : List ℕ) (side : ℕ) where
-  items-pass : (i : ℕ) (its : List ItemWords) → firstBad pool side i its ≡ accepted ↔ AllSound pool its
-  unfolding firstBad
-  items-pass i [] = (λ e. tt, λ e. refl)
-  items-pass i (it ∷ its) =
-      let both = accepts (faultAt (uprightFault pool it) side i) (firstBad pool side (suc i) its) in
-      let one = fault-passes (uprightFault pool it) side i in
-      let rest = items-pass (suc i) its in
-      (λ e. let b = both .0 e in (one .0 (b .0), rest .0 (b .1)), λ e. both .1 (one .1 (e .0), rest .1 (e .1)))
+pub items-pass : (fault : ItemWords → ℕ) (side i : ℕ) (its : List ItemWords) → firstBad fault side i its ≡ accepted ↔ All (λ it. fault it ≡ 0) its
+unfolding firstBad
+items-pass fault side i [] = (λ e. tt, λ e. refl)
+items-pass fault side i (it ∷ its) =
+    let both = accepts (faultAt (fault it) side i) (firstBad fault side (suc i) its) in
+    let one = fault-passes (fault it) side i in
+    let rest = items-pass fault side (suc i) its in
+    (λ e. let b = both .0 e in (one .0 (b .0), rest .0 (b .1)), λ e. both .1 (one .1 (e .0), rest .1 (e .1)))
 
+pub shape-passes : (ws : List ℕ) (side : ℕ) → shapeVerdict ws side ≡ accepted ↔ ((length ws % itemSize ≡ 0) × (length ws / itemSize ≤ mostItems))
+shape-passes ws side =
+    let one = refuses (not (eqb (length ws % itemSize) 0) || ltb mostItems (length ws / itemSize)) 1 side 0 in
+    let both = or-false (not (eqb (length ws % itemSize) 0)) (ltb mostItems (length ws / itemSize)) in (
+      λ e. let b = both .0 (one .0 e) in (eqb-true _ 0 (not-false _ (b .0)), ltb-false _ _ (b .1)),
+      λ p. one .1 (both .1 (rw (eq-eqb _ 0 (p .0)), le-ltb _ _ (p .1))),
+    )
+
+module _ (pool : List ℕ) (side : ℕ) where
   following-pass : (i : ℕ) (e : RangeSetItem) (its : List ItemWords) → firstBreak pool side i e its ≡ accepted ↔ Following pool e its
   unfolding firstBreak
   following-pass i e [] = (λ p. tt, λ p. refl)
@@ -100,28 +125,22 @@ module _ (pool : List ℕ) (side : ℕ) where
   order-passes (it ∷ its) = following-pass 1 (rangeOf it .end) its
 
   module _ (ws : List ℕ) where
-    shape-passes : shapeVerdict ws side ≡ accepted ↔ ((length ws % itemSize ≡ 0) × (length ws / itemSize ≤ mostItems))
-    shape-passes =
-        let one = refuses (not (eqb (length ws % itemSize) 0) || ltb mostItems (length ws / itemSize)) 1 side 0 in
-        let both = or-false (not (eqb (length ws % itemSize) 0)) (ltb mostItems (length ws / itemSize)) in (
-          λ e. let b = both .0 (one .0 e) in (eqb-true _ 0 (not-false _ (b .0)), ltb-false _ _ (b .1)),
-          λ p. one .1 (both .1 (rw (eq-eqb _ 0 (p .0)), le-ltb _ _ (p .1))),
-        )
-
     pub accepted-list : listVerdict pool ws side ≡ accepted ↔ AcceptedList pool ws
     accepted-list =
         let shape = accepts (shapeVerdict ws side) (wholeVerdict pool ws side) in
-        let body = accepts (firstBad pool side 0 (itemsOf ws)) (strictVerdict pool side (itemsOf ws)) in (
+        let sound = items-pass (uprightFault pool) side 0 (itemsOf ws) in
+        let whole = shape-passes ws side in
+        let body = accepts (firstBad (uprightFault pool) side 0 (itemsOf ws)) (strictVerdict pool side (itemsOf ws)) in (
           λ e.
               let s = shape .0 e in
               let b = body .0 (s .1) in
               record {
-                whole = shape-passes .0 (s .0) .0;
-                few = shape-passes .0 (s .0) .1;
-                sound = items-pass 0 (itemsOf ws) .0 (b .0);
+                whole = whole .0 (s .0) .0;
+                few = whole .0 (s .0) .1;
+                sound = sound .0 (b .0);
                 in-order = order-passes (itemsOf ws) .0 (b .1);
               },
-          λ a. shape .1 (shape-passes .1 (a .whole, a .few), body .1 (items-pass 0 (itemsOf ws) .1 (a .sound), order-passes (itemsOf ws) .1 (a .in-order))),
+          λ a. shape .1 (whole .1 (a .whole, a .few), body .1 (sound .1 (a .sound), order-passes (itemsOf ws) .1 (a .in-order))),
         )
 
 pub pool-passes : (pool : List ℕ) → poolVerdict pool ≡ accepted ↔ length pool ≤ mostPool

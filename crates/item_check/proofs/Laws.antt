@@ -3,13 +3,15 @@
 -- a check's numbers tell its cases apart
 pub use Rattle.item_check.proofs.Apart.{refused-apart, verdict-apart}
 -- what the check of a list accepts
-pub use Rattle.item_check.proofs.Accepted.{AllSound, Following, InOrder, AcceptedList, accepts, or-false, accepted-list, pool-passes}
--- what a call that answers has passed, and what of an item
-pub use Rattle.item_check.proofs.Accepted.{answers, sound-parts}
+pub use Rattle.item_check.proofs.Accepted.{AllSound, Following, InOrder, AcceptedList, accepts, or-false, items-pass, shape-passes, accepted-list, pool-passes}
+-- what a call that answers has passed, what a call leaves in words lent to it, and what of an item
+pub use Rattle.item_check.proofs.Accepted.{answers, words-refused, words-answered, fault-parts, sound-parts}
 -- a list at an index
-pub use Rattle.item_check.proofs.Scans.{items-end, items-more, fault-passes, fault-refused}
+pub use Rattle.item_check.proofs.Scans.{items-end, items-more, items-all, fault-passes, fault-refused, bad-end, bad-here, bad-next}
 -- its items stand one above another, and at most one of them holds a key
 pub use Rattle.item_check.proofs.Strict.{Strict, later-starts, later-ends, holds-once}
+-- lists that show the same are strict alike
+pub use Rattle.item_check.proofs.Shown.{strict-shown}
 -- of lists of anything: what holds of all that is in one, and one in another order
 pub use Rattle.intervals.specs.Lists.{Reordered}
 pub use Rattle.intervals.proofs.Laws.{All, reordered-by, length-reordered, all-reordered}

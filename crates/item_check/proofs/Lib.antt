@@ -2,5 +2,6 @@ pub mod Tests
 pub mod Scans
 pub mod Accepted
 pub mod Strict
+pub mod Shown
 pub mod Apart
 pub mod Laws

@@ -4,13 +4,16 @@ use mathlib.Core.Path.{_≡_, refl}
 use mathlib.Core.Bool.{true, false}
 use mathlib.Core.List.{List, [], _∷_}
 use mathlib.Core.Logic.{_↔_}
+use native.Mathlib.Decide.{ℕ-discrete}
 use native.Mathlib.Omega.{arith}
 use native.Mathlib.Numerals.{add-one}
 use Rattle.key_order.specs.Order.{isLess}
+use Rattle.query_item.specs.declared.ItemWords.{ItemWords}
 use Rattle.query_item.specs.declared.RangeSetItem.{RangeSetItem}
 use Rattle.query_item.specs.Items.{itemAt, itemsFrom}
 use Rattle.query_item.specs.Boundaries.{compareIn, setAt}
-use Rattle.item_check.specs.Checks.{Verdict, accepted, refused, faultAt, uprightFault, firstBad, firstBreak, strictVerdict}
+use Rattle.intervals.proofs.Laws.{All}
+use Rattle.item_check.specs.Checks.{Verdict, accepted, refused, faultAt, firstBad, firstBreak, strictVerdict}
 
 -- a fault is refused with its number, and 0 is none
 pub fault-refused : (f side i : ℕ) → (f ≡ 0 → ⊥) → faultAt f side i ≡ refused f side i
@@ -31,22 +34,32 @@ module _ (ws : List ℕ) (i count : ℕ) where
   unfolding itemsFrom
   items-more h = let e : count - i ≡ suc (count - (i + 1)) = omega arith in rw (e, add-one i)
 
-module _ (pool : List ℕ) (side : ℕ) (ws : List ℕ) (i count : ℕ) where
+-- what holds of all items from an index on holds of each of them
+pub items-all : (P : ItemWords → Type 0) (ws : List ℕ) (a n : ℕ) → All P (itemsFrom ws a n) → (i : ℕ) → a ≤ i → i < a + n → P (itemAt ws i)
+unfolding itemsFrom
+items-all P ws a zero h i l m = absurd (omega arith)
+items-all P ws a (suc n) h i l m = elim (ℕ-discrete i a) [
+  | yes q ↦ rw q (h .0)
+  | no q ↦ items-all P ws (suc a) n (h .1) i (omega arith) (omega arith)
+]
+
+module _ (fault : ItemWords → ℕ) (side : ℕ) (ws : List ℕ) (i count : ℕ) where
   abbrev badLeft : ℕ → Verdict
-  badLeft j = firstBad pool side j (itemsFrom ws j (count - j))
+  badLeft j = firstBad fault side j (itemsFrom ws j (count - j))
 
   pub bad-end : count ≤ i → badLeft i ≡ accepted
   unfolding firstBad
   bad-end h = rw (items-end ws i count h)
 
-  pub bad-here : {f : ℕ} → i < count → f ≡ uprightFault pool (itemAt ws i) → (f ≡ 0 → ⊥) → badLeft i ≡ refused f side i
+  pub bad-here : {f : ℕ} → i < count → f ≡ fault (itemAt ws i) → (f ≡ 0 → ⊥) → badLeft i ≡ refused f side i
   unfolding firstBad
   bad-here {f} h e bad = rw (items-more ws i count h, ← e, fault-refused f side i bad)
 
-  pub bad-next : {f : ℕ} → i < count → f ≡ uprightFault pool (itemAt ws i) → f ≡ 0 → badLeft i ≡ badLeft (i + 1)
+  pub bad-next : {f : ℕ} → i < count → f ≡ fault (itemAt ws i) → f ≡ 0 → badLeft i ≡ badLeft (i + 1)
   unfolding firstBad
   bad-next h e good = rw (items-more ws i count h, ← e, good, add-one i)
 
+module _ (pool : List ℕ) (side : ℕ) (ws : List ℕ) (i count : ℕ) where
   abbrev breakLeft : RangeSetItem → ℕ → Verdict
   breakLeft end j = firstBreak pool side j end (itemsFrom ws j (count - j))
 

@@ -17,18 +17,15 @@ use Rattle.query_item.specs.Boundaries.{boundaryOf, compareIn, setAt, upright}
 use Rattle.query_item.proofs.Fits.{boundary-fits}
 use Rattle.query_item.proofs.Held.{holds-between}
 use Rattle.query_item.proofs.Intervals.{rankIn, less-rank, at-most-rank}
+use Rattle.item_check.specs.Checks.{uprightFault}
+use Rattle.item_check.proofs.Scans.{items-all}
 use Rattle.item_check.proofs.Accepted.{AllSound, Following, InOrder, AcceptedList, sound-parts}
 
 -- ---- each item of a list, by its index: it is upright, and ends below the start of the next
 
 module _ (pool ws : List ℕ) where
   upright-from : (a n j : ℕ) → AllSound pool (itemsFrom ws a n) → a ≤ j → j < a + n → upright pool (setAt ws j) ≡ true
-  unfolding itemsFrom
-  upright-from a zero j s h l = absurd (omega arith)
-  upright-from a (suc n) j s h l = elim (decLt a j) [
-    | yes p ↦ upright-from (suc a) n j (s .1) (omega arith) (omega arith)
-    | no p ↦ let e : j ≡ a = omega arith in rw e (sound-parts pool (itemAt ws a) (s .0) .2)
-  ]
+  upright-from a n j s h l = sound-parts pool (itemAt ws j) (items-all (λ it. uprightFault pool it ≡ 0) ws a n s j h l) .2
 
   following-from : (a n j : ℕ) → Following pool (setAt ws a .end) (itemsFrom ws (suc a) n) → a ≤ j → j < a + n
       → isLess (compareIn pool (setAt ws j .end) (setAt ws (suc j) .start)) ≡ true

@@ -33,6 +33,11 @@ abbrev pub andThen : {A : Type 0} → Verdict → Answer A → Answer A
 andThen (answered u) next = next
 andThen (refused number side index) next = refused number side index
 
+-- 01 demand.1, reading A1: words that are lent for writing, afterwards: a refusal leaves them as they were
+abbrev pub wordsBy : {A : Type 0} → Answer A → List ℕ → List ℕ → List ℕ
+wordsBy (answered a) before after = after
+wordsBy (refused number side index) before after = before
+
 -- 01 form.11: the paper's numbers for each case of a check's answer
 
 abbrev pub refusedAs : {A : Type 0} → Refusal → Answer A
@@ -108,10 +113,10 @@ abbrev pub shapeVerdict : List ℕ → ℕ → Verdict
 shapeVerdict ws side =
     cond (not (eqb (length ws % itemSize) 0) || ltb mostItems (length ws / itemSize)) (refused 1 side 0) accepted
 
--- 01 refusal.6: item by item 1, 2, 3, the first bad item deciding
-unfoldable pub firstBad : List ℕ → ℕ → ℕ → List ItemWords → Verdict
-firstBad pool side i [] = accepted
-firstBad pool side i (it ∷ its) = andThen (faultAt (uprightFault pool it) side i) (firstBad pool side (suc i) its)
+-- 01 refusal.6: item by item, the first bad item deciding, by the number that `fault` gives of what is wrong with an item
+unfoldable pub firstBad : (ItemWords → ℕ) → ℕ → ℕ → List ItemWords → Verdict
+firstBad fault side i [] = accepted
+firstBad fault side i (it ∷ its) = andThen (faultAt (fault it) side i) (firstBad fault side (suc i) its)
 
 -- 01 keys.10, keys.11, no.4, refusal.4: a list is strict when each item's end is below the next item's start; empty lists are strict.
 -- 4 has the index of the first item that breaks this with the one before it, which ends at e
@@ -130,7 +135,7 @@ abbrev pub itemsOf : List ℕ → List ItemWords
 itemsOf ws = itemsFrom ws 0 (length ws / itemSize)
 
 abbrev pub wholeVerdict : List ℕ → List ℕ → ℕ → Verdict
-wholeVerdict pool ws side = andThen (firstBad pool side 0 (itemsOf ws)) (strictVerdict pool side (itemsOf ws))
+wholeVerdict pool ws side = andThen (firstBad (uprightFault pool) side 0 (itemsOf ws)) (strictVerdict pool side (itemsOf ws))
 
 abbrev pub listVerdict : List ℕ → List ℕ → ℕ → Verdict
 listVerdict pool ws side = andThen (shapeVerdict ws side) (wholeVerdict pool ws side)

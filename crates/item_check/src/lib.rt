@@ -100,7 +100,7 @@ pub fn check_shape(words: &[u32], side: u32) -> Checked
 
 // inner: what the first bad one of the first count items is refused for: 1, 2 or 3.
 pub fn check_items(pool: &[u8], words: &[u32], count: usize, side: u32) -> Checked
-    ensures { λ r. ⌜ verdictOf r ≡ firstBad (now (pool .entry)) side 0 (itemsFrom (now (words .entry)) 0 count) ⌝ }
+    ensures { λ r. ⌜ verdictOf r ≡ firstBad (uprightFault (now (pool .entry))) side 0 (itemsFrom (now (words .entry)) 0 count) ⌝ }
 {
     let mut i: usize = 0;
     while i < count {

@@ -13,7 +13,7 @@ use Rattle.query_item.specs.declared.ItemWords.{ItemWords}
 use Rattle.query_item.specs.Items.{itemSize, flat, flatAll, withItem}
 use Rattle.item_lists.specs.Written.{laidOver, putAll, Put}
 
-length-with : (ws : List ℕ) (i : ℕ) (it : ItemWords) → length (withItem ws i it) ≡ length ws
+pub length-with : (ws : List ℕ) (i : ℕ) (it : ItemWords) → length (withItem ws i it) ≡ length ws
 unfolding withItem
 length-with ws i it = go (ltb i (length ws / itemSize))
   where
@@ -81,7 +81,7 @@ put-none out n = record { count = omega arith; words = refl }
 
 -- ---- items in enough room
 
-sets-append : (us vs l : List ℕ) (i : ℕ) → sets l i (us ++ vs) ≡ sets (sets l i us) (i + length us) vs
+pub sets-append : (us vs l : List ℕ) (i : ℕ) → sets l i (us ++ vs) ≡ sets (sets l i us) (i + length us) vs
 sets-append [] vs l i = rw add-zero
 sets-append (u ∷ us) vs l i =
     let e : suc i + length us ≡ i + suc (length us) = omega arith in

@@ -1,5 +1,6 @@
 // Lists of items in lent words: the room that they need, and items written one after another.
-// Definitions: specs/Written.antt. Laws: proofs/Written.antt, and proofs/Read.antt, by which a written list is read back.
+// Definitions: specs/Written.antt. Laws: proofs/Written.antt, proofs/Read.antt, by which a written list is read back, and proofs/Words.antt, of an
+// item written among others.
 //
 // Every function is inner: it is public only because other crates need it, checks nothing, and its definition covers every input.
 ghost use mathlib.Core.Path.{_≡_};

@@ -1,9 +1,9 @@
 -- Each law that a caller cites: an upright range is of the two kinds exactly where it holds no key, of any length, and a part of a range
--- that holds no key holds none. Assumes nothing.
+-- that holds no key holds none; which ranges are left out is told by their boundaries. Assumes nothing.
 use Prim.Native.Nat.{ℕ, _+_, _≤_, _<_}
-use mathlib.Core.Path.{_≡_, refl, sym, ap, ap₂, _∙_}
+use mathlib.Core.Path.{_≡_, refl, sym, ap, _∙_}
 use mathlib.Core.Bool.{Bool, true, false, not, _&&_, and-false, Bool·not-not}
-use mathlib.Core.List.{List}
+use mathlib.Core.List.{List, map}
 use mathlib.Core.Logic.{_↔_}
 use native.Mathlib.Decide.{decLe}
 use native.Mathlib.Nat.{le-refl}
@@ -15,15 +15,17 @@ use Rattle.key_order.specs.Boundary.{Boundary, atKey, inclusive, compareBoundar
 use Rattle.key_order.proofs.Line.{size}
 use Rattle.key_order.proofs.Laws.{compare-refl}
 use Rattle.key_order.proofs.Ranks.{extent, rank, keyRank, boundary-at-most, between-rank}
+use Rattle.intervals.specs.Lists.{keep}
 use Rattle.intervals.specs.Intervals.{inside}
+use Rattle.intervals.proofs.Laws.{map-keep}
 use Rattle.query_item.specs.declared.RangeSetItem.{RangeSetItem}
 use Rattle.query_item.specs.declared.RangeSetItem.the-variants.{UnboundedStart, UnboundedEnd, Inclusive, ExclusiveStart, ExclusiveEnd}
 use Rattle.query_item.specs.declared.RangeSet.{RangeSet}
 use Rattle.query_item.specs.declared.QueryItem.{QueryItem}
 use Rattle.query_item.specs.Items.{holds}
 use Rattle.query_item.specs.Boundaries.{boundaryOf, toRangeSet, upright}
-use Rattle.query_item.proofs.Laws.{holds-between, boundary-fits, Starts, Ends, rankIn, at-most-rank, interval, Whole, upright-whole, whole-upright}
-use Rattle.keyless.specs.Keyless.{keylessBetween, keyless, firstKey, firstOf}
+use Rattle.query_item.proofs.Laws.{holds-between, boundary-fits, Starts, Ends, Sides, seen, rankIn, at-most-rank, interval, Whole, upright-whole, whole-upright}
+use Rattle.keyless.specs.Keyless.{keylessBetween, keyless, keyed, firstKey, firstOf}
 use Rattle.keyless.proofs.Firsts.{StartsAt, EndsAt, from-first, keyless-first}
 pub use Rattle.keyless.proofs.Firsts.{StartsAt, EndsAt}
 
@@ -101,11 +103,14 @@ ends-at pool (Inclusive k) h = tt
 ends-at pool (ExclusiveStart k) h = h
 ends-at pool (ExclusiveEnd k) h = tt
 
--- by boundaries alone
-pub keyless-same : (pool : List ℕ) (a b : RangeSet) → boundaryOf pool (a .start) ≡ boundaryOf pool (b .start)
-    → boundaryOf pool (a .end) ≡ boundaryOf pool (b .end) → keyless pool a ≡ keyless pool b
+-- which ranges of a list are left out is told by their boundaries alone, whatever pool the keys stand in
+
+abbrev pub keyedSides : List Sides → List Sides
+keyedSides L = keep (λ b. not (keylessBetween (b .0) (b .1))) L
+
+pub keyed-seen : (pool : List ℕ) (S : List RangeSet) → map (seen pool) (keyed pool S) ≡ keyedSides (map (seen pool) S)
 unfolding keyless
-keyless-same pool a b p q = ap₂ keylessBetween p q
+keyed-seen pool S = map-keep (seen pool) (λ b. not (keylessBetween (b .0) (b .1))) S
 
 module _ (pool : List ℕ) (n : ℕ) (fits : size pool ≤ n) (a : RangeSet) (A : Whole pool n fits a) where
   -- an upright range of a pool is of the two kinds exactly where it holds no key, of any length

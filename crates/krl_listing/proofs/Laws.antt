@@ -53,7 +53,7 @@ use Rattle.krl_listing.specs.Listing.{
   mostLine,
 }
 use Rattle.krl_listing.proofs.Lines.{length-list-lines}
-pub use Rattle.krl_listing.proofs.Lines.{length-items}
+pub use Rattle.item_lists.proofs.Words.{length-items}
 
 -- ---- how many lines
 

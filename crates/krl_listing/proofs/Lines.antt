@@ -10,16 +10,12 @@ use Rattle.query_item.specs.declared.ItemWords.{ItemWords}
 use Rattle.query_item.specs.declared.QueryItem.{QueryItem}
 use Rattle.query_item.specs.Items.{queryItem, itemAt, itemsFrom}
 use Rattle.intersect_many.specs.declared.ManyCounts.{ManyCounts}
+use Rattle.item_lists.proofs.Words.{length-items}
 use Rattle.lent_text.specs.Text.{stored}
 use Rattle.krl_line.specs.Lines.{oursWord, theirsWord}
 use Rattle.krl_listing.specs.Listing.{itemLine, titleLine, itemLines, listLines, listingLines, lineAt, sharedWord}
 
 -- ---- the lines of a list, by index
-
-pub length-items : (ws : List ℕ) (i n : ℕ) → length (itemsFrom ws i n) ≡ n
-unfolding itemsFrom
-length-items ws i zero = refl
-length-items ws i (suc n) = ap suc (length-items ws (suc i) n)
 
 length-item-lines : (pool : List ℕ) (its : List ItemWords) → length (itemLines pool its) ≡ length its
 unfolding itemLines

@@ -3,7 +3,6 @@ use Prim.Native.Nat.{ℕ, zero, suc, _+_, _-_, _*_, _/_, _≤_, _<_, min}
 use mathlib.Core.Path.{_≡_, refl, sym, ap, _∙_}
 use mathlib.Core.Bool.{cond}
 use mathlib.Core.List.{List, [], _++_, append-assoc, append-nil}
-use native.Mathlib.Numerals.{add-one}
 use native.Mathlib.Omega.{arith}
 use lib.ListN.{length, drop, length-append}
 use borrow.Author.Tests.{lt-ltb, le-ltb}
@@ -11,35 +10,17 @@ use Rattle.intervals.specs.Intervals.{Interval, piece}
 use Rattle.intervals.specs.Intervals as interval
 use Rattle.intervals.proofs.Laws.{piece-some, piece-none, piece-one}
 use Rattle.query_item.specs.Items.{itemAt, itemsFrom}
-use Rattle.item_check.specs.Checks.{Answer, answered, Verdict, accepted, refused, andThen, poolVerdict, shapeVerdict, itemsOf}
-use Rattle.item_check.proofs.Laws.{accepts, fault-refused, items-end, items-more}
+use Rattle.item_check.specs.Checks.{Answer, answered, accepted, refused, andThen, poolVerdict, shapeVerdict, firstBad, itemsOf}
+use Rattle.item_check.proofs.Laws.{accepts, items-end, items-more}
 use Rattle.pairs_sort.specs.Pairs.{pairsFrom, pairs, put, pushes, Merged}
 use Rattle.pairs_sort.proofs.Laws.{pairs-length, push-length, push-pairs, push-kept}
-use Rattle.position_query.specs.Covered.{positionFault, firstFault, queryVerdict, FromQueryItems}
+use Rattle.position_query.specs.Covered.{positionFault, queryVerdict, FromQueryItems}
 use Rattle.position_given.specs.Inner.{lastWord}
 use Rattle.position_given.specs.Positions.{rowsOf}
 use Rattle.position_query.specs.Ranges.{clipped, ranges}
 use Rattle.position_query.specs.Inner.{Wrote, Building}
 use Rattle.key_order.proofs.Words.{Bytes}
 use Rattle.position_query.proofs.Ranges.{ranges-covered, ranges-needed}
-
--- ---- the check
-
-module _ (pool ws : List ℕ) (i count : ℕ) where
-  abbrev faultLeft : ℕ → Verdict
-  faultLeft j = firstFault pool j (itemsFrom ws j (count - j))
-
-  pub fault-end : count ≤ i → faultLeft i ≡ accepted
-  unfolding firstFault
-  fault-end h = rw (items-end ws i count h)
-
-  pub fault-here : {f : ℕ} → i < count → f ≡ positionFault pool (itemAt ws i) → (f ≡ 0 → ⊥) → faultLeft i ≡ refused f 0 i
-  unfolding firstFault
-  fault-here {f} h e bad = rw (items-more ws i count h, ← e, fault-refused f 0 i bad)
-
-  pub fault-next : {f : ℕ} → i < count → f ≡ positionFault pool (itemAt ws i) → f ≡ 0 → faultLeft i ≡ faultLeft (i + 1)
-  unfolding firstFault
-  fault-next h e good = rw (items-more ws i count h, ← e, good, add-one i)
 
 -- ---- how many ranges
 
@@ -163,8 +144,8 @@ from-refused pool ws count old n s i e = record {
 pub from-built : (pool ws : List ℕ) (count : ℕ) (old new : List ℕ) (r : Answer (ℕ × ℕ)) → Bytes pool → count ≤ lastWord → queryVerdict pool ws ≡ accepted
     → Building pool ws count old new r → FromQueryItems pool ws count old new r
 from-built pool ws count old new r B few e M =
-    let rest = accepts (poolVerdict pool) (andThen (shapeVerdict ws 0) (firstFault pool 0 (itemsOf ws))) .0 e in
-    let good = accepts (shapeVerdict ws 0) (firstFault pool 0 (itemsOf ws)) .0 (rest .1) in
+    let rest = accepts (poolVerdict pool) (andThen (shapeVerdict ws 0) (firstBad (positionFault pool) 0 0 (itemsOf ws))) .0 e in
+    let good = accepts (shapeVerdict ws 0) (firstBad (positionFault pool) 0 0 (itemsOf ws)) .0 (rest .1) in
     let needed = ranges-needed pool B count few 0 (itemsOf ws) (good .1) in record {
       verdict = rw (e, ← needed) (M .verdict);
       written = λ m t h. let w = M .written m t h in record {

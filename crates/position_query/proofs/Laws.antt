@@ -14,13 +14,13 @@ use Rattle.intervals.specs.Intervals as interval
 use Rattle.intervals.proofs.Laws.{canonical-unique, canonical-fewest-below, cover-all-unique}
 use Rattle.key_order.proofs.Words.{Bytes}
 use Rattle.query_item.specs.declared.ItemWords.{ItemWords}
-use Rattle.item_check.specs.Checks.{Answer, answered, refused, accepted, andThen, poolVerdict, shapeVerdict, itemsOf}
+use Rattle.item_check.specs.Checks.{Answer, answered, refused, accepted, andThen, poolVerdict, shapeVerdict, firstBad, itemsOf}
 use Rattle.item_check.proofs.Laws.{accepts}
 use Rattle.pairs_sort.specs.Pairs.{start, finish, pairsFrom, pairs}
 use Rattle.pairs_sort.proofs.Laws.{pairs-length}
 use Rattle.position_given.specs.Inner.{lastWord}
 use Rattle.position_given.specs.Positions.{rowsOf}
-use Rattle.position_query.specs.Covered.{covered, firstFault, rangesNeeded, roomVerdict, queryVerdict, buildVerdict, asVerdict, Covers, FromQueryItems}
+use Rattle.position_query.specs.Covered.{covered, positionFault, rangesNeeded, roomVerdict, queryVerdict, buildVerdict, asVerdict, Covers, FromQueryItems}
 use Rattle.position_query.specs.Ranges.{ranges, coveredPairs}
 use Rattle.position_query.proofs.Ranges.{ranges-covered, ranges-needed}
 pub use Rattle.position_query.proofs.Ranges.{item-held}
@@ -125,10 +125,10 @@ module _ (pool ws : List ℕ) (count : ℕ) (old new : List ℕ) (r : Answer (�
 
 -- ---- the answer of `from_query_items`, computed
 
-no-fault : (pool ws : List ℕ) → queryVerdict pool ws ≡ accepted → firstFault pool 0 (itemsOf ws) ≡ accepted
+no-fault : (pool ws : List ℕ) → queryVerdict pool ws ≡ accepted → firstBad (positionFault pool) 0 0 (itemsOf ws) ≡ accepted
 no-fault pool ws good =
-    let items = andThen (shapeVerdict ws 0) (firstFault pool 0 (itemsOf ws)) in
-    accepts (shapeVerdict ws 0) (firstFault pool 0 (itemsOf ws)) .0 (accepts (poolVerdict pool) items .0 good .1) .1
+    let items = andThen (shapeVerdict ws 0) (firstBad (positionFault pool) 0 0 (itemsOf ws)) in
+    accepts (shapeVerdict ws 0) (firstBad (positionFault pool) 0 0 (itemsOf ws)) .0 (accepts (poolVerdict pool) items .0 good .1) .1
 
 module _ (pool ws : List ℕ) (count : ℕ) (B : Bytes pool) (few : count ≤ lastWord) where
   -- pairs that are canonical and hold the positions that accepted items cover are the computed ones

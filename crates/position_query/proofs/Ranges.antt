@@ -25,11 +25,11 @@ use Rattle.query_item.specs.declared.QueryItem.the-variants as item
 use Rattle.query_item.specs.Items.{bytesOf, same, atMost, holds, itemOf, queryItem}
 use Rattle.query_item.specs.Items as table
 use Rattle.query_item.specs.Boundaries.{toRangeSet, rangeOf}
-use Rattle.item_check.specs.Checks.{Answer, answered, refused, accepted, hasStart, hasEnd, malformed, outside, faultAt}
-use Rattle.item_check.proofs.Laws.{accepts}
+use Rattle.item_check.specs.Checks.{Answer, answered, refused, accepted, hasStart, hasEnd, malformed, outside, faultAt, firstBad}
+use Rattle.item_check.proofs.Laws.{accepts, fault-passes}
 use Rattle.key_order.specs.Words.{be}
 use Rattle.position_key.specs.Keys.{keySize, positionKey, positionAnswer}
-use Rattle.position_query.specs.Covered.{holdsPosition, someHolds, covered, wrapped, noPosition, badKey, positionFault, firstFault, anyBelow, rangesNeeded}
+use Rattle.position_query.specs.Covered.{holdsPosition, someHolds, covered, wrapped, noPosition, badKey, positionFault, anyBelow, rangesNeeded}
 use Rattle.position_given.specs.Inner.{lastWord}
 use Rattle.position_query.specs.Ranges.{afterOf, firstOf, pastOf, bothOf, rangeAnswer, clipTo, clipped, ranges}
 use Rattle.key_order.proofs.Words.{Bytes, be-says}
@@ -302,17 +302,13 @@ module _ (pool : List ℕ) (B : Bytes pool) (count : ℕ) (few : count ≤ lastW
 
   -- ---- the ranges of accepted items
 
-  fault-zero : (f i : ℕ) → faultAt f 0 i ≡ accepted → f ≡ 0
-  fault-zero zero i h = refl
-  fault-zero (suc f) i h = let z : _≡_ {A = ℕ} 0 1 = cc in absurd (omega arith)
-
-  pub ranges-covered : (i : ℕ) (its : List ItemWords) → firstFault pool i its ≡ accepted
+  pub ranges-covered : (i : ℕ) (its : List ItemWords) → firstBad (positionFault pool) 0 i its ≡ accepted
       → (p : ℕ) → interval.holds (ranges pool count its) p ≡ covered pool its count p
-  unfolding firstFault ranges covered someHolds interval.holds
+  unfolding firstBad ranges covered someHolds interval.holds
   ranges-covered i [] h p = rw and-false
   ranges-covered i (it ∷ its) h p =
-      let both = accepts (faultAt (positionFault pool it) 0 i) (firstFault pool (suc i) its) .0 h in
-      let good = fault-zero (positionFault pool it) i (both .0) in
+      let both = accepts (faultAt (positionFault pool it) 0 i) (firstBad (positionFault pool) 0 (suc i) its) .0 h in
+      let good = fault-passes (positionFault pool it) 0 i .0 (both .0) in
       rw (
         holds-append (piece (clipped pool count it .0) (clipped pool count it .1)) (ranges pool count its) p,
         holds-piece (clipped pool count it .0) (clipped pool count it .1) p,
@@ -320,12 +316,12 @@ module _ (pool : List ℕ) (B : Bytes pool) (count : ℕ) (few : count ≤ lastW
         ranges-covered (suc i) its (both .1) p,
       ) (sym (and-or-distrib-left (ltb p count) (holdsPosition pool it p) (someHolds pool its p)))
 
-  pub ranges-needed : (i : ℕ) (its : List ItemWords) → firstFault pool i its ≡ accepted → length (ranges pool count its) ≡ rangesNeeded pool count its
-  unfolding firstFault ranges rangesNeeded
+  pub ranges-needed : (i : ℕ) (its : List ItemWords) → firstBad (positionFault pool) 0 i its ≡ accepted → length (ranges pool count its) ≡ rangesNeeded pool count its
+  unfolding firstBad ranges rangesNeeded
   ranges-needed i [] h = refl
   ranges-needed i (it ∷ its) h =
-      let both = accepts (faultAt (positionFault pool it) 0 i) (firstFault pool (suc i) its) .0 h in
-      let good = fault-zero (positionFault pool it) i (both .0) in
+      let both = accepts (faultAt (positionFault pool it) 0 i) (firstBad (positionFault pool) 0 (suc i) its) .0 h in
+      let good = fault-passes (positionFault pool it) 0 i .0 (both .0) in
       rw (clipped-some it good, ← ranges-needed (suc i) its (both .1)) (one (clipped pool count it .0) (clipped pool count it .1) (ranges pool count its))
     where
       one : (s e : ℕ) (A : List Interval) → length (piece s e ++ A) ≡ cond (ltb s e) (suc (length A)) (length A)

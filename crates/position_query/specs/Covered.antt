@@ -10,7 +10,7 @@ use Rattle.intervals.specs.Intervals as interval
 use Rattle.query_item.specs.declared.KeyAt.{KeyAt}
 use Rattle.query_item.specs.declared.ItemWords.{ItemWords}
 use Rattle.query_item.specs.Items.{bytesOf, queryItem, holds}
-use Rattle.item_check.specs.Checks.{Answer, answered, refused, Verdict, accepted, andThen, hasStart, hasEnd, malformed, outside, faultAt, poolVerdict, shapeVerdict, itemsOf}
+use Rattle.item_check.specs.Checks.{Answer, answered, refused, Verdict, accepted, andThen, hasStart, hasEnd, malformed, outside, poolVerdict, shapeVerdict, firstBad, itemsOf}
 use Rattle.pairs_sort.specs.Pairs.{pairs}
 use Rattle.position_given.specs.Positions.{rowsOf}
 use Rattle.position_key.specs.Keys.{keySize, positionKey}
@@ -50,11 +50,6 @@ positionFault pool it =
     (cond (wrapped it) 5
     (cond (badKey pool it) 7 0)))
 
--- 01 refusal.6, refusal.3: item by item, the first bad item deciding; position items are side 0
-unfoldable pub firstFault : List ℕ → ℕ → List ItemWords → Verdict
-firstFault pool i [] = accepted
-firstFault pool i (it ∷ its) = andThen (faultAt (positionFault pool it) 0 i) (firstFault pool (suc i) its)
-
 -- ---- room
 
 -- 01 m6.5: whether f holds of some number below n
@@ -72,9 +67,9 @@ rangesNeeded pool count (it ∷ its) =
 abbrev pub roomVerdict : ℕ → ℕ → Verdict
 roomVerdict needed words = cond (ltb (words / 2) needed) (refused 6 0 0) accepted
 
--- 01 refusal.6: the pool's size, the list's shape, item by item, then 6
+-- 01 refusal.6, refusal.3: the pool's size, the list's shape, item by item, then 6; position items are side 0
 abbrev pub queryVerdict : List ℕ → List ℕ → Verdict
-queryVerdict pool ws = andThen (poolVerdict pool) (andThen (shapeVerdict ws 0) (firstFault pool 0 (itemsOf ws)))
+queryVerdict pool ws = andThen (poolVerdict pool) (andThen (shapeVerdict ws 0) (firstBad (positionFault pool) 0 0 (itemsOf ws)))
 
 abbrev pub buildVerdict : List ℕ → List ℕ → ℕ → ℕ → Verdict
 buildVerdict pool ws count words = andThen (queryVerdict pool ws) (roomVerdict (rangesNeeded pool count (itemsOf ws)) words)

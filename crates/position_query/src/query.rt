@@ -5,12 +5,12 @@ ghost use lib.ListN.{length};
 ghost use lib.Dec.{leb};
 ghost use Rattle.intervals.specs.Intervals.{Canonical};
 ghost use Rattle.query_item.specs.Items.{bytesOf};
-ghost use Rattle.item_check.specs.Checks.{verdictOf, answered, itemsOf};
+ghost use Rattle.item_check.specs.Checks.{verdictOf, answered, firstBad, itemsOf};
 ghost use Rattle.pairs_sort.specs.Pairs.{pairs};
 ghost use Rattle.position_given.specs.Positions.{rowsOf};
 ghost use Rattle.position_given.specs.Answers.{storedOf};
 ghost use Rattle.position_key.specs.Keys.{positionOf, positionAnswer};
-ghost use Rattle.position_query.specs.Covered.{positionFault, firstFault, queryVerdict, FromQueryItems};
+ghost use Rattle.position_query.specs.Covered.{positionFault, queryVerdict, FromQueryItems};
 ghost use Rattle.position_query.specs.Ranges.{afterOf, firstOf, pastOf, rangeAnswer, clipped, ranges};
 ghost use Rattle.position_query.specs.Inner.{itemRangeOf, rangePair, Wrote, Building};
 use item_check::Checked;
@@ -75,7 +75,7 @@ fn check_query(pool: &[u8], items: &[u32]) -> Checked
 }
 
 fn check_items(pool: &[u8], items: &[u32]) -> Checked
-    ensures { λ r. ⌜ verdictOf r ≡ firstFault (now (pool .entry)) 0 (itemsOf (now (items .entry))) ⌝ }
+    ensures { λ r. ⌜ verdictOf r ≡ firstBad (positionFault (now (pool .entry))) 0 0 (itemsOf (now (items .entry))) ⌝ }
 {
     let n = items.len() / ITEM_SIZE;
     let mut i: usize = 0;

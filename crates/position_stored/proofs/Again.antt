@@ -9,11 +9,11 @@ use lib.Dec.{ltb}
 use lib.ListN.{length, drop, replicate, length-append, length-replicate, length-drop}
 use borrow.Author.Tests.{le-ltb, ltb-false}
 use Rattle.intervals.specs.Intervals.{Interval, Canonical}
-use Rattle.item_check.specs.Checks.{Answer, answered, refused, Verdict, andThen}
+use Rattle.item_check.specs.Checks.{Answer, answered, refused, Verdict, andThen, wordsBy}
 use Rattle.pairs_sort.specs.Pairs.{pairs, flatPairs}
 use Rattle.pairs_sort.proofs.Laws.{pairs-flat-front, length-flat}
 use Rattle.position_given.specs.Positions.{rowsOf}
-use Rattle.position_stored.specs.Stored.{laid, listAnswer, wordsBy, storedVerdict, changeAnswer, changeWords}
+use Rattle.position_stored.specs.Stored.{laid, listAnswer, storedVerdict, changeAnswer, changeWords}
 use Rattle.position_stored.specs.Inner.{StoredList}
 use Rattle.position_stored.proofs.Checks.{stored, stored-accepts}
 use Rattle.position_stored.proofs.Places.{same-answer, same-words}

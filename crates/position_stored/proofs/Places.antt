@@ -7,11 +7,11 @@ use lib.ListN.{length, drop, replicate}
 use lib.Seq.{sets, drop-drop}
 use borrow.Author.Tests.{lt-ltb, le-ltb}
 use Rattle.intervals.specs.Intervals.{Interval}
-use Rattle.item_check.specs.Checks.{answered, refused}
+use Rattle.item_check.specs.Checks.{answered, refused, wordsBy}
 use Rattle.pairs_sort.specs.Pairs.{start, finish, pairsFrom, pairs, flatPairs}
 use Rattle.pairs_sort.proofs.Laws.{pairs-more, pairs-end, pairs-length}
 use Rattle.position_given.specs.Positions.{rowsOf}
-use Rattle.position_stored.specs.Stored.{laid, listAnswer, wordsBy}
+use Rattle.position_stored.specs.Stored.{laid, listAnswer}
 use Rattle.position_stored.specs.Inner.{StoredList}
 use Rattle.position_stored.proofs.Words.{laid-is, laid-same}
 

@@ -7,7 +7,7 @@ use lib.ListN.{length, drop, replicate}
 use lib.Dec.{ltb, eqb}
 use Rattle.intervals.specs.Intervals.{Interval}
 use Rattle.intervals.specs.Cover.{cover, uncover}
-use Rattle.item_check.specs.Checks.{Answer, answered, refused, Verdict, accepted, andThen}
+use Rattle.item_check.specs.Checks.{Answer, answered, refused, Verdict, accepted, andThen, wordsBy}
 use Rattle.pairs_sort.specs.Pairs.{pairs, flatPairs}
 use Rattle.position_given.specs.Given.{canonicalVerdict}
 use Rattle.position_given.specs.Positions.{rowsOf}
@@ -42,11 +42,6 @@ laid ws count A = flatPairs A ++ (replicate (2 * (count - length A)) 0 ++ drop (
 -- 02 §4.11, §4.4: 6 exactly if the new canonical list does not fit, reading B9: it alone counts; else its number of pairs and its rows
 abbrev pub listAnswer : List ℕ → List Interval → Answer (ℕ × ℕ)
 listAnswer ws A = cond (ltb (length ws / 2) (length A)) (refused 6 0 0) (answered (length A, rowsOf A))
-
--- 01 demand.1: on a refusal all words stay
-abbrev pub wordsBy : {X : Type 0} → Answer X → List ℕ → List ℕ → List ℕ
-wordsBy (answered x) before after = after
-wordsBy (refused number side index) before after = before
 
 -- 02 §4.8: the words of a checked list that becomes A, where there is room
 abbrev pub listWords : List ℕ → ℕ → List Interval → List ℕ

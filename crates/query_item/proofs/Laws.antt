@@ -6,6 +6,10 @@ pub use Rattle.query_item.proofs.Words.{query-words, wrapper-words}
 pub use Rattle.query_item.proofs.Held.{holds-between, Keeps, item-keeps, holds-converted}
 -- a start and an end make an item, and it shows what these tell; items that show the same have the same boundaries
 pub use Rattle.query_item.proofs.Told.{Starts, Ends, told, Tells, item-told, shown-range}
+-- they hold the same keys, of lists too, and are upright alike
+pub use Rattle.query_item.proofs.Shown.{upright-shown, holds-shown, holds-each-shown, holds-any-shown}
+-- ranges seen as their two boundaries
+pub use Rattle.query_item.proofs.Seen.{Sides, seen, inverted, smaller-seen, invert-seen, toldItem, shownItem, item-seen, ranges-seen}
 -- ranges as intervals of ranks
 pub use Rattle.query_item.proofs.Fits.{key-fits, boundary-fits}
 pub use Rattle.query_item.proofs.Intervals.{rankIn, less-rank, at-most-rank, rank-says-in, rank-same-in, told-same, interval, Whole, item-sides}

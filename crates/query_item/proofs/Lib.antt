@@ -3,5 +3,7 @@ pub mod Words
 pub mod Fits
 pub mod Held
 pub mod Told
+pub mod Shown
+pub mod Seen
 pub mod Intervals
 pub mod Laws

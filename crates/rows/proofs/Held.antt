@@ -19,7 +19,6 @@ use Rattle.insert.specs.Insertion.{placed, inserted}
 use Rattle.pairs_sort.specs.Pairs.{pairsFrom, flatPairs}
 use Rattle.position_given.specs.Given.{firstTouching, canonicalVerdict, firstFalling, ascendingVerdict}
 use Rattle.position_given.specs.Positions.{countUp, positionsOf}
-use Rattle.position_query.specs.Covered.{firstFault}
 use Rattle.position_query.specs.Ranges.{ranges}
 use Rattle.position_report.specs.Reports.{reportOf}
 use Rattle.position_mismatch.specs.Reports.{isIn, missing}
@@ -31,5 +30,5 @@ use Rattle.krl_program.specs.Program.{programAnswer, programLines}
 use Rattle.rows.specs.Rows.{Result, Row, rows}
 
 pub rows-hold : map {B = Result} (λ (r : Row). r .0) rows ≡ map (λ (r : Row). r .1) rows
-unfolding compareNumbers compareKeys compareBoundaries itemAt itemsFrom flatAll firstBad firstBreak strictVerdict meetsOf sharedOf cutsOf withoutOf meetSets leftOver rightOver keyless convertAll keyedItems sharedItems onlyItems orderItems sameItem endsBelow clashes fateOf staying merged mergedWith placed inserted firstClash inside holds piece growOf coverOf cover coverAll pairsFrom flatPairs firstTouching canonicalVerdict firstFalling ascendingVerdict countUp positionsOf be firstFault ranges isIn keep missing reportOf digits hexDigit hexText keyText u16At recordAt recordsFrom itemLine itemLines listLines listingLines joined programAnswer programLines
+unfolding compareNumbers compareKeys compareBoundaries itemAt itemsFrom flatAll firstBad firstBreak strictVerdict meetsOf sharedOf cutsOf withoutOf meetSets leftOver rightOver keyless convertAll keyedItems sharedItems onlyItems orderItems sameItem endsBelow clashes fateOf staying merged mergedWith placed inserted firstClash inside holds piece growOf coverOf cover coverAll pairsFrom flatPairs firstTouching canonicalVerdict firstFalling ascendingVerdict countUp positionsOf be ranges isIn keep missing reportOf digits hexDigit hexText keyText u16At recordAt recordsFrom itemLine itemLines listLines listingLines joined programAnswer programLines
 rows-hold = refl

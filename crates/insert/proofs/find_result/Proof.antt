@@ -3,7 +3,7 @@ use Prim.Native.Nat.{_-_}
 use native.Mathlib.Omega.{arith}
 use borrow.Author.Needs.{needs}
 use Rattle.query_item.specs.Items.{itemsFrom}
-use Rattle.insert.proofs.Written.{length-items}
+use Rattle.item_lists.proofs.Words.{length-items}
 use Rattle.insert.proofs.Tails.{length-staying}
 use Rattle.insert.proofs.Windows.{asked-merged, asked-stay}
 use Rattle.insert.proofs.find_result.Statement.{statement}

@@ -9,7 +9,7 @@ use lib.Dec.{ltb}
 use borrow.Author.Needs.{needs}
 use Rattle.query_item.specs.Items.{itemSize, itemsFrom}
 use Rattle.item_check.specs.Checks.{mostItems}
-use Rattle.insert.proofs.Written.{length-items}
+use Rattle.item_lists.proofs.Words.{length-items}
 use Rattle.insert.proofs.Windows.{ascending}
 use Rattle.insert.proofs.Tails.{length-staying, first-in, tail-room, tail-stay, tail-laid, after-is, after-placed, room-is}
 use Rattle.insert.proofs.insert_checked.Statement.{statement}

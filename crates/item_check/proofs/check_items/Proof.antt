@@ -5,14 +5,14 @@ use mathlib.Core.Path.{_≡_, sym, _∙_}
 use native.Mathlib.Nat.{sub-zero}
 use borrow.Author.Needs.{needs}
 use Rattle.query_item.specs.Items.{itemsFrom}
-use Rattle.item_check.specs.Checks.{firstBad}
+use Rattle.item_check.specs.Checks.{uprightFault, firstBad}
 use Rattle.item_check.proofs.Scans.{bad-end, bad-here, bad-next}
 use Rattle.item_check.proofs.check_items.Statement.{statement}
 use Rattle.item_check.proofs.check_items.Tie as tie
 
 abbrev Inv-loop : tie.InvT-loop
 Inv-loop pool words count side i₀ i =
-    (i ≤ count) × (firstBad pool side 0 (itemsFrom words 0 count) ≡ firstBad pool side i (itemsFrom words i (count - i)))
+    (i ≤ count) × (firstBad (uprightFault pool) side 0 (itemsFrom words 0 count) ≡ firstBad (uprightFault pool) side i (itemsFrom words i (count - i)))
 
 abbrev μ-loop : tie.MeasureT-loop
 μ-loop pool words count side i₀ i = count - i

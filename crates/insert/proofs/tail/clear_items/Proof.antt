@@ -3,11 +3,11 @@
 use Prim.Native.Nat.{ℕ, _+_, _-_}
 use mathlib.Core.List.{List}
 use mathlib.Core.Path.{_≡_, refl, sym, ap, _∙_}
-use native.Mathlib.Omega.{arith}
 use lib.ListN.{length}
 use borrow.Author.Needs.{needs}
 use Rattle.insert.specs.Passes.{cleared}
-use Rattle.insert.proofs.Written.{clear-more, clear-end, length-with}
+use Rattle.item_lists.proofs.Written.{length-with}
+use Rattle.insert.proofs.Cleared.{clear-more, clear-end}
 use Rattle.insert.proofs.tail.clear_items.Statement.{statement}
 use Rattle.insert.proofs.tail.clear_items.Tie as tie
 
@@ -27,7 +27,7 @@ loop-again c =
     let wrote = rw (c .before .before .before .zero-item .ensures) at (c .before .before .write-item .ensures) in
     let more = c .before .before .before .before .before .loop-test .taken in
     let fits = c .before .before .before .before .before .before .before .before .pre .1 in (
-      ap length wrote ∙ length-with _ _ _ (rw size (omega arith)) ∙ size,
+      ap length wrote ∙ length-with _ _ _ ∙ size,
       turn .inv .1 ∙ clear-more _ _ _ more (rw size fits) ∙ ap (λ (l : List ℕ). cleared l (turn .i + 1) (c .before .before .before .before .before .before .before .before .args .to)) (sym wrote),
     )
 

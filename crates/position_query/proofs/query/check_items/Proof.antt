@@ -4,15 +4,16 @@ use mathlib.Core.Path.{_≡_, sym, _∙_}
 use lib.ListN.{length}
 use native.Mathlib.Nat.{sub-zero}
 use Rattle.query_item.specs.Items.{itemSize, itemsFrom}
-use Rattle.position_query.specs.Covered.{firstFault}
-use Rattle.position_query.proofs.Builds.{fault-end, fault-here, fault-next}
+use Rattle.item_check.specs.Checks.{firstBad}
+use Rattle.item_check.proofs.Laws.{bad-end, bad-here, bad-next}
+use Rattle.position_query.specs.Covered.{positionFault}
 use borrow.Author.Needs.{needs}
 use Rattle.position_query.proofs.query.check_items.Statement.{statement}
 use Rattle.position_query.proofs.query.check_items.Tie as tie
 
 abbrev Inv-loop : tie.InvT-loop
 Inv-loop pool items n i₀ i =
-    (n ≡ length items / itemSize) × (i ≤ n) × (firstFault pool 0 (itemsFrom items 0 n) ≡ firstFault pool i (itemsFrom items i (n - i)))
+    (n ≡ length items / itemSize) × (i ≤ n) × (firstBad (positionFault pool) 0 0 (itemsFrom items 0 n) ≡ firstBad (positionFault pool) 0 i (itemsFrom items i (n - i)))
 
 abbrev μ-loop : tie.MeasureT-loop
 μ-loop pool items n i₀ i = n - i
@@ -24,17 +25,17 @@ returns : tie.Need-returns Inv-loop μ-loop
 returns c =
     c .refuse .ensures
     ∙ sym (c .before .before .before .before .before .loop .inv .2
-    ∙ fault-here _ _ _ _ (c .before .before .before .before .loop-test .taken) (c .before .before .position-fault .ensures ∙ rw (c .before .before .before .item-at .ensures)) (c .before .if1 .taken))
+    ∙ bad-here _ _ _ _ _ (c .before .before .before .before .loop-test .taken) (c .before .before .position-fault .ensures ∙ rw (c .before .before .before .item-at .ensures)) (c .before .if1 .taken))
 
 loop-again : tie.Need-loop-again Inv-loop μ-loop
 loop-again c = (
   search needs,
   search needs,
-  c .before .before .before .before .loop .inv .2 ∙ fault-next _ _ _ _ (c .before .before .before .loop-test .taken) (c .before .position-fault .ensures ∙ rw (c .before .before .item-at .ensures)) (c .if1 .left),
+  c .before .before .before .before .loop .inv .2 ∙ bad-next _ _ _ _ _ (c .before .before .before .loop-test .taken) (c .before .position-fault .ensures ∙ rw (c .before .before .item-at .ensures)) (c .if1 .left),
 )
 
 returns-2 : tie.Need-returns-2 Inv-loop μ-loop
-returns-2 c = sym (c .before .loop .inv .2 ∙ fault-end _ _ _ _ (c .loop-test .left))
+returns-2 c = sym (c .before .loop .inv .2 ∙ bad-end _ _ _ _ _ (c .loop-test .left))
 
 pub check-items-spec : {M : Type 1} → statement M
 check-items-spec =

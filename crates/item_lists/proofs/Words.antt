@@ -1,16 +1,16 @@
--- Items as words: an item that is written, the items of a tail, and the words of a front. Assumes nothing.
-use Prim.Native.Nat.{ℕ, zero, suc, _+_, _-_, _*_, _/_, _≤_, _<_, max}
+-- Items as words: an item that is written, the items of a tail, the words of a front, and the items of a front. Assumes nothing.
+use Prim.Native.Nat.{ℕ, zero, suc, _+_, _-_, _*_, _/_, _%_, _≤_, _<_}
 use mathlib.Core.Path.{_≡_, refl, sym, ap, _∙_}
-use mathlib.Core.List.{List, [], _∷_, _++_, append-assoc}
+use mathlib.Core.List.{List, [], _∷_, _++_}
 use native.Mathlib.Omega.{arith}
 use native.Mathlib.Numerals.{add-one}
-use lib.ListN.{length, getD, take, drop, replicate, length-append, take-append-drop}
-use lib.Seq.{length-take-le, drop-cons, sets-eq, length-sets, take-at, drop-at, getD-drop, drop-drop}
+use lib.ListN.{length, getD, take, drop, length-append}
+use lib.Seq.{take-all, length-take-le, drop-cons, sets-eq, take-at, drop-at, getD-drop, drop-drop}
 use borrow.Author.Tests.{lt-ltb}
 use Rattle.query_item.specs.declared.ItemWords.{ItemWords}
 use Rattle.query_item.specs.Items.{itemSize, itemAt, itemsFrom, flat, flatAll, withItem}
+use Rattle.item_lists.proofs.Read.{items-read}
 use Rattle.item_lists.proofs.Written.{length-flat}
-use Rattle.insert.specs.Passes.{zeroItem, cleared}
 
 -- ---- an item is written
 
@@ -37,10 +37,6 @@ module _ (ws : List ℕ) (i : ℕ) (it : ItemWords) (h : i < length ws / itemSiz
       ∙ drop-at (take (itemSize * i) ws ++ flat it) (drop (itemSize * i + 6) ws) (itemSize * (i + 1)) front-long)
       ∙ drop-drop (itemSize * k - itemSize * (i + 1)) (itemSize * i + 6) ws
       ∙ ap (λ (n : ℕ). drop n ws) f
-
-  pub length-with : length (withItem ws i it) ≡ length ws
-  unfolding withItem
-  length-with = rw (lt-ltb i (length ws / itemSize) h) (length-sets ws (itemSize * i) (flat it))
 
 -- ---- items of a tail
 
@@ -126,23 +122,9 @@ flat-front ws k h =
     whole : flatAll (itemsFrom ws 0 k) ++ drop (itemSize * k) ws ≡ ws
     whole = let e : 0 + k ≡ k = omega arith in rw e at (flat-items ws 0 k (omega arith))
 
--- ---- items set to 0
-
-zeros-more : (k : ℕ) → replicate {A = ℕ} (itemSize * suc k) 0 ≡ flat zeroItem ++ replicate (itemSize * k) 0
-zeros-more k = let e : itemSize * suc k ≡ suc (suc (suc (suc (suc (suc (itemSize * k)))))) = omega arith in rw e
-
-pub clear-more : (ws : List ℕ) (i to : ℕ) → i < to → to ≤ length ws / itemSize → cleared ws i to ≡ cleared (withItem ws i zeroItem) (i + 1) to
-unfolding cleared
-clear-more ws i to h l =
-    let e : to - i ≡ suc (to - (i + 1)) = omega arith in
-    let f : max to i ≡ to = omega arith in
-    let g : max to (i + 1) ≡ to = omega arith in
-    rw (e, f, g, take-with ws i zeroItem (omega arith), drop-with ws i zeroItem (omega arith) to h, zeros-more (to - (i + 1)))
-    (sym (append-assoc (take (itemSize * i) ws) (flat zeroItem) (replicate (itemSize * (to - (i + 1))) 0 ++ drop (itemSize * to) ws)))
-
-pub clear-end : (ws : List ℕ) (i to : ℕ) → to ≤ i → cleared ws i to ≡ ws
-unfolding cleared
-clear-end ws i to h =
-    let e : to - i ≡ 0 = omega arith in
-    let f : max to i ≡ i = omega arith in
-    rw (e, f) (take-append-drop (itemSize * i) ws)
+-- a list of whole items at the front of a buffer: its items are the first ones there
+pub front-items : (ws spare : List ℕ) → length ws % itemSize ≡ 0 → itemsFrom (ws ++ spare) 0 (length ws / itemSize) ≡ itemsFrom ws 0 (length ws / itemSize)
+front-items ws spare h =
+    let n = length ws / itemSize in
+    let all : flatAll (itemsFrom ws 0 n) ≡ ws = flat-front ws n (omega arith) ∙ take-all (itemSize * n) ws (omega arith) in
+    rw (length-items ws 0 n, all) at (items-read (itemsFrom ws 0 n) [] spare 0 refl)
