@@ -63,7 +63,7 @@ lib:
 	@cp target/native/libfernsponge.a target/lib/
 	@cp include/fernsponge.h target/include/
 
-# Our answers held against the Rust's, some six minutes; the table goes to docs/COMPARISON.md. Then our sums and cents against Python's, and our
+# Our answers held against the Rust's, some eight minutes; the table goes to docs/COMPARISON.md. Then our sums and cents against Python's, and our
 # stored lists against PostgreSQL's.
 compare: lib
 	$(COMPARE) $(RUN)
