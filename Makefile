@@ -5,15 +5,18 @@ RUN ?= long $(CURDIR)/docs/COMPARISON.md
 CENTS ?= 1000000
 # How many covers and uncovers of stored lists PostgreSQL's multiranges make again.
 MULTIRANGES ?= 200000
+# How many sheets Python's csv reads again or writes, half of them each.
+SHEETS ?= 100000
 # What the program is shown on, and how many damaged files it is tried on.
 FILE ?= samples/document.krl
 COUNT ?= 10000
 EARLIER ?=
 # cargo by itself: it takes no part in make's own share of the cores.
 CARGO := env -u MAKEFLAGS -u MFLAGS cargo
+LANES = $(CARGO) run --quiet --offline --manifest-path rust/Cargo.toml --example lanes --
 COMPARE = GROVEDB_SRC="$(GROVEDB_SRC)" $(CARGO) run --quiet --release --offline --manifest-path compare/Cargo.toml --
 
-.PHONY: run test prove beside lib compare compare-short cents multiranges bench record attack attack-short link-short link-c link-rust
+.PHONY: run test prove beside lib compare compare-short cents multiranges sheets bench record attack attack-short link-short link-c link-rust
 
 # The program krl on a file. What is proved and unchanged is not proved again.
 run: target/krl.log
@@ -42,7 +45,7 @@ beside:
 	@[ ! -x target/bin/krl ] || touch target/krl.log
 	@{ $(MAKE) --no-print-directory compare-short && $(MAKE) --no-print-directory link-short && $(MAKE) --no-print-directory attack-short; } \
 	    >target/beside.log 2>&1 || { cat target/beside.log; echo "make: what is tried beside the proofs failed"; exit 1; }
-	@grep -E 'calls in all|^decimal_cents:|^multiranges:|^attack:|left out' target/beside.log
+	@grep -E 'calls in all|^decimal_cents:|^multiranges:|^csv_sheets:|^attack:|left out' target/beside.log
 
 # The program on files that are damaged in many ways.
 attack: target/krl.log
@@ -63,12 +66,13 @@ lib:
 	@cp target/native/libfernsponge.a target/lib/
 	@cp include/fernsponge.h target/include/
 
-# Our answers held against the Rust's, some eight minutes; the table goes to docs/COMPARISON.md. Then our sums and cents against Python's, and our
-# stored lists against PostgreSQL's.
+# Our answers held against the Rust's, some eight minutes; the table goes to docs/COMPARISON.md. Then our sums and cents against Python's, our
+# stored lists against PostgreSQL's, and our sheets against Python's csv.
 compare: lib
 	$(COMPARE) $(RUN)
 	@$(MAKE) --no-print-directory cents
 	@$(MAKE) --no-print-directory multiranges
+	@$(MAKE) --no-print-directory sheets
 
 # The totals of invoices, added up again and rounded by Python's decimal, where python3 is at hand; first three wrong lines, each of which has to
 # fail: another sum, another number of keys without a rate, half a cent as 1.
@@ -94,10 +98,25 @@ multiranges: lib
 	    echo "multiranges: left out, as python3 is not at hand"; \
 	fi
 
+# Sheets read again by Python's csv, and sheets that its writer wrote read by ours, where python3 is at hand; first eleven wrong lines, each of
+# which has to fail: another key, another code, an absent key as an empty one, a row too few, a good row refused, LF alone or a blank row accepted,
+# another row's number, a text without its line end, other lanes than csv's writer was given, no line at all.
+sheets: lib
+	@if command -v python3 >/dev/null; then \
+	    key=4B65792C30352C && row=$${key}0D0A && printf '%s\n' "$$row;0:06:*;$$row" "$$row;4:05:*;$$row" "$$row;0:05:;$$row" "$$row$$row;0:05:*;$$row" \
+	        "$$row;refused 12 0;" "$${key}0A;0:05:*;$$row" "$${row}0D0A;0:05:*;$$row" "$${row}2C;refused 12 0;" "$$row;0:05:*;$$key" \
+	        "$$row;0:06:*;0:05:*;$$row" "$$row" | tools/csv_sheets hold 11 | grep '; 11 failures' >/dev/null \
+	        || { echo "sheets: a wrong line is accepted"; exit 1; }; \
+	    half=$$(($(SHEETS) / 2)) && \
+	    { $(COMPARE) sheets $$half && tools/csv_sheets write $$half | $(COMPARE) sheets-read; } | tools/csv_sheets hold $$((2 * half)); \
+	else \
+	    echo "sheets: left out, as python3 is not at hand"; \
+	fi
+
 # The same on a sample, where cargo and the Rust are at hand.
 compare-short:
 	@if command -v cargo >/dev/null && [ -d "$(GROVEDB_SRC)" ]; then \
-	    $(MAKE) --no-print-directory compare RUN=short CENTS=30000 MULTIRANGES=2000; \
+	    $(MAKE) --no-print-directory compare RUN=short CENTS=30000 MULTIRANGES=2000 SHEETS=2000; \
 	else \
 	    echo "compare-short: left out, as cargo or the Rust's sources (GROVEDB_SRC=$(GROVEDB_SRC)) are not at hand"; \
 	fi
@@ -127,10 +146,16 @@ link-c: lib
 	target/stored | diff - c/stored.stdout
 	cc -std=c11 -Wall -Wextra -Wpedantic -Werror -Itarget/include c/collect.c target/lib/libfernsponge.a -o target/collect
 	target/collect | diff - c/collect.stdout
+	cc -std=c11 -Wall -Wextra -Wpedantic -Werror -Itarget/include c/sheet.c target/lib/libfernsponge.a -o target/sheet
+	target/sheet | diff - c/sheet.stdout
 
 link-rust: lib
 	$(CARGO) test --quiet --offline --manifest-path rust/Cargo.toml
-	$(CARGO) run --quiet --offline --manifest-path rust/Cargo.toml --example lanes -- samples/ours.lanes samples/theirs.lanes | diff - crates/krl/stdout
+	$(LANES) samples/ours.csv samples/theirs.csv | diff - crates/krl/stdout
+	$(LANES) samples/ours.csv samples/theirs.csv target/shared.csv target/only_ours.csv target/only_theirs.csv
+	printf 'Key,03,\r\n' | diff - target/shared.csv
+	printf 'Range,01,03\r\nRangeAfterTo,03,05\r\n' | diff - target/only_ours.csv
+	printf '' | diff - target/only_theirs.csv
 
 # Both sides timed in one run, some five minutes; the tables go to docs/BENCHMARKS.md, and the chart to docs/benchmarks.svg. EARLIER names a
 # libfernsponge.a that was kept from before a change: the three lists are then timed beside it too.

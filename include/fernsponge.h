@@ -1,4 +1,5 @@
-/* Fernsponge: ranges of keys, rates for them, and positions of a log. Link libfernsponge.a (`make lib` puts it and this file into target/).
+/* Fernsponge: ranges of keys, sheets and rates of them, and positions of a log. Link libfernsponge.a (`make lib` puts it and this file into
+ * target/).
  *
  * Every function is proved to meet its contract, as long as the caller passes what the parameters say:
  * - a lent slice is an address and a length in elements. The address is not null and is aligned for its elements, also where the length is 0;
@@ -11,22 +12,23 @@
  *    1  malformed: an unknown code, wrapper or kind, words of an absent key that are not 0, a list whose words are no multiple of 6 or that
  *       has more than 2,048 items, a pool of more than 65,536 bytes, a count beyond its buffer, an odd number of interval, window or key
  *       words, a report with more than 16 examples, a card that has not one amount for each item
- *    2  a key longer than 255 bytes, or reaching past the pool: of an item, or of an invoice
+ *    2  a key longer than 255 bytes, or reaching past the pool: of an item, of a row of a sheet, or of an invoice
  *    3  an item that is not upright: its start stands above its end
  *    4  an item out of order: in the algebra each item ends below the start of the next
- *    5  a wrapped item in a position query
- *    6  the result needs more room than was lent
+ *    5  a wrapped item in a position query, or in a list that is to be written as a sheet
+ *    6  the result needs more room than was lent; a sheet that is read has more than 2,048 rows
  *    7  a position key that is not 8 bytes
  *    8  proved positions that do not ascend strictly, spans that are turned round or start below the end of the one before
  *    9  intervals that are not canonical: nonempty, ascending, each end below the next start; a stored total that is not the number of the
  *       rows that they cover
+ *   12  a row of a sheet that says no item
  *   14  an amount of a card below -10^12 or above 10^12
  *   15  an invoice of more than 1,000 keys
  *   16  windows of at most 0 rows
  *
- * Side 0 is ours, 1 theirs; position items, intervals, and a card's items and amounts are side 0, proved positions, spans, windows of a plan, an
- * item to insert and the keys of an invoice side 1. The index is that of the item, amount, key, pair or position; a wrong stored total has the
- * number of pairs; a pool, the shape of a list, a card or an invoice, want of room, and refusals 15 and 16 have index 0.
+ * Side 0 is ours, 1 theirs; position items, intervals, sheets, and a card's items and amounts are side 0, proved positions, spans, windows of a
+ * plan, an item to insert and the keys of an invoice side 1. The index is that of the item, row, amount, key, pair or position, from 0; a wrong
+ * stored total has the number of pairs; a pool, the shape of a list, a card or an invoice, want of room, and refusals 15 and 16 have index 0.
  *
  * Keys stand in one pool of bytes, and an item names its keys by offset and length. An item is six words: code, wrapper, start offset, start
  * length, end offset, end length; the words of a key that its kind has not are 0. An item that may be missing is seven words: 1 and its six, or
@@ -167,6 +169,37 @@ uint64_t fernsponge_insert_item(const uint8_t *pool, size_t pool_length, uint32_
  * n * n / 2. It takes some 112 KB of stack. */
 uint64_t fernsponge_collect(const uint8_t *pool, size_t pool_length, uint8_t *fresh, size_t fresh_length, uint32_t *ours, size_t ours_length,
                             uint32_t *theirs, size_t theirs_length, uint64_t *used);
+
+/* ---- sheets. A sheet is comma-separated text under RFC 4180, a row for each item, of three fields: the item's name, which is Key, Range,
+ * RangeInclusive, RangeFull, RangeFrom, RangeTo, RangeToInclusive, RangeAfter, RangeAfterTo or RangeAfterToInclusive, in exactly that case; its
+ * start key; its end key. A key is hexadecimal, two digits a byte, and the empty key is `-`; the field of a key that the item does not have is
+ * empty. CR LF ends a row. There is no header, and a text of no bytes has no items. Sheets have plain items only */
+
+/* Reads a sheet: its keys go to the front of pool, and its items to the front of out, six words each, wrapper 0; *items is how many items, and
+ * *bytes how many bytes of keys these are. The keys are packed in the order read, start before end, equal ones each time; an empty key gets the
+ * place where packing stands, and length 0. Bytes and words past them stay. A field may be quoted, digits are read in either case, and the last row
+ * may lack its line end. Room of out is whole items, out_length / 6; spare words are no fault, and stay.
+ *
+ * The whole text is checked first: 12 and the number of the first bad row, counted from 0. A row is bad that has not three fields; whose first is
+ * none of the ten names; whose second or third is not as the item has it: not empty where it has no such key, or, where it has one, neither `-`
+ * nor digits alone, two or more and even in number; in which a quote is not closed, or stands inside a field; or that does not end in CR LF, unless
+ * the text ends there. So a blank row is bad, a space, a CR or LF alone, a byte order mark, and, as no name and no key has a quote, a doubled
+ * quote. No row before the first bad one has a line end inside, so that its number is that of its line.
+ *
+ * Then 1 for a pool of more than 65,536 bytes, then 2 and the number of the first row that has a key longer than 255 bytes, then 6, exactly where
+ * the keys have more bytes than pool, or the items are more than out has room for, or more than 2,048. Items need be neither upright nor in order.
+ * It costs O(text_length): the text is read once to check, and once more to write. */
+uint64_t fernsponge_read_sheet(const uint8_t *text, size_t text_length, uint8_t *pool, size_t pool_length, uint32_t *out, size_t out_length,
+                               uint64_t *items, uint64_t *bytes);
+
+/* Writes a list of plain items as a sheet, to the front of text; *bytes is its length, with no 0 at its end, and bytes past it stay. Digits are in
+ * upper case, no field is quoted, and CR LF ends every row. Reading it gives the same items by kind and key bytes, where pool and list have room.
+ *
+ * The pool's size is checked first, then the list's shape, then item by item 1, 2, and 5 for a wrapped one. Items need be neither upright nor in
+ * order. 6 exactly where the sheet has more bytes than text; the longest row, two keys of 255 bytes and the longest name, has 1,045. It costs
+ * O(words_length + bytes of the sheet): the items are walked to check, to measure and to write. */
+uint64_t fernsponge_write_sheet(const uint8_t *pool, size_t pool_length, const uint32_t *words, size_t words_length, uint8_t *text,
+                                size_t text_length, uint64_t *bytes);
 
 /* ---- rate cards. A card is a list, checked as check_list does it, as ours, and one amount for each item: ten-thousandths of the currency
  * unit, from -10^12 to 10^12. Wrappers are read through. Nothing is lent for writing but the places of the answer */

@@ -11,6 +11,8 @@ mod others;
 mod pairs;
 mod rates;
 mod report;
+mod sheets;
+mod split;
 mod stored;
 mod sweep;
 mod timing;
@@ -81,6 +83,7 @@ fn measure(sizes: &[usize]) -> Measured {
         stored: stored::run(),
         reading: stored::reading(),
         collected: collected::run(),
+        sheets: sheets::run(),
         rates: sizes
             .iter()
             .max()

@@ -5,6 +5,7 @@ use crate::{
     lists::{Earlier, Timed},
     others::{Line, Planned},
     rates::Rated,
+    sheets::{Call, Sheet},
     stored::{Changed, Width, CHANGED},
 };
 use compare::table::grouped;
@@ -22,6 +23,7 @@ pub struct Measured {
     /// the total, counted afresh and read
     pub reading: [f64; 2],
     pub collected: Vec<Packed>,
+    pub sheets: Vec<Sheet>,
     pub rates: Vec<Rated>,
 }
 
@@ -50,6 +52,9 @@ impl Measured {
             *one = one.min(two);
         }
         for (one, two) in self.collected.iter_mut().zip(other.collected) {
+            one.least(two);
+        }
+        for (one, two) in self.sheets.iter_mut().zip(other.sheets) {
             one.least(two);
         }
         for (one, two) in self.rates.iter_mut().zip(other.rates) {
@@ -89,7 +94,9 @@ The reference for lists is a sweep with two indexes, written by hand in Rust and
 same words: *trusting* takes accepted lists and enough room for granted, *checking* refuses what our call refuses. For keys it is the standard
 library's order of slices. For rate cards it is a binary search by hand (`compare/bench/card.rs`), which checks and refuses as our calls do.
 For stored lists it is a `Vec` of pairs with a total beside it (`compare/bench/pairs.rs`), which checks nothing. For collecting it is the
-standard library's `HashMap` (`compare/bench/hashed.rs`), which checks nothing but the room.
+standard library's `HashMap` (`compare/bench/hashed.rs`), which checks nothing but the room. For sheets it is splitting and
+decoding by hand (`compare/bench/split.rs`): in *one pass*, which checks rows as it reads them, and of what it writes the room alone, and
+*checking* first, which refuses what our calls refuse.
 
 ";
 
@@ -183,6 +190,21 @@ each call on both sides, which is not timed. *Growth* is a time beside that of h
 
 | order | keys | ours | HashMap | ours / HashMap | growth of ours | of HashMap |
 |---|--:|--:|--:|--:|--:|--:|
+";
+
+const SHEETS: &str = "
+## Lane sheets as text
+
+The Rust has none. So many rows, with keys by chance of so many bytes, as our call writes them: no field is quoted. *Mixed*: rows of all ten kinds,
+by chance, of which seven have a start, six an end, and one has neither. 16 such sheets take turns. All sides have the same memory: they read into
+a lent pool of 65,536 bytes and a lent list with room for all rows, and write into lent bytes with room for any such sheet; nothing is allocated.
+Ours reads every row before it writes anything, and then once more; and it checks every item and the length of the text before it writes any.
+*One pass*: reading checks each row when it comes to it, so that what it refuses it leaves half written; writing checks the room and no item.
+*Checking*: the same, behind a pass that checks and counts, so that it refuses what ours refuses, with nothing written. Both take the values of
+digits from a table. *Growth* is our time beside that of half as many rows.
+
+| | keys | | rows | ours | one pass | checking | ours / one pass | ours / checking | growth |
+|---|--:|---|--:|--:|--:|--:|--:|--:|--:|
 ";
 
 const RATES: &str = "
@@ -281,6 +303,11 @@ pub fn text(measured: &Measured) -> String {
         let half = at.checked_sub(1).map(|at| &measured.collected[at]);
         text += &packed(row, half);
     }
+    text += SHEETS;
+    for (at, row) in measured.sheets.iter().enumerate() {
+        let half = at.checked_sub(1).map(|at| &measured.sheets[at]);
+        text += &sheet(row, half);
+    }
     text += RATES;
     for row in &measured.rates {
         text += &format!(
@@ -350,6 +377,24 @@ fn packed(row: &Packed, before: Option<&Packed>) -> String {
         two(row.ratio()),
         growth(|row| row.ours),
         growth(|row| row.hashed),
+    )
+}
+
+/// A row of times, beside ours of the row before it where that has half as many rows of the same kind.
+fn sheet(row: &Sheet, before: Option<&Sheet>) -> String {
+    let half = before.filter(|half| row.doubles(half));
+    format!(
+        "| {} | {} | {} | {} | {} | {} | {} | {} | {} | {} |\n",
+        row.call.name(),
+        row.length,
+        row.kind.name(),
+        grouped(row.rows as u64),
+        time(row.ours),
+        time(row.one_pass),
+        time(row.checking),
+        two(row.ours / row.one_pass),
+        two(row.ours / row.checking),
+        half.map_or("-".to_string(), |half| two(row.ours / half.ours)),
     )
 }
 
@@ -435,6 +480,14 @@ fn targets(measured: &Measured) -> Vec<Target> {
             )
         })
     };
+    let sheets = |call: Call, beside: fn(&Sheet) -> f64| {
+        let rows = measured.sheets.iter();
+        let rows = rows.filter(move |row| row.call == call && row.rows == 2_048);
+        rows.map(move |row| {
+            let (name, length) = (row.kind.name(), row.length);
+            (row.ours / beside(row), format!("{name}, keys of {length}"))
+        })
+    };
     let mut targets = vec![
         least(
             "the three lists at 2,048 at least 1,000 times as fast as the Rust",
@@ -479,6 +532,26 @@ fn targets(measured: &Measured) -> Vec<Target> {
             (measured.stored.iter())
                 .filter(|row| row.pairs == 2_000)
                 .map(|row| (row.ratio(), format!("ranges of {}", row.width.name()))),
+        ),
+        most(
+            "reading a sheet of 2,048 rows within 3 times one by hand that refuses as ours does",
+            3.0,
+            sheets(Call::Read, |row| row.checking),
+        ),
+        most(
+            "and within 3 times one pass",
+            3.0,
+            sheets(Call::Read, |row| row.one_pass),
+        ),
+        most(
+            "writing one within 3 times one by hand that refuses as ours does",
+            3.0,
+            sheets(Call::Write, |row| row.checking),
+        ),
+        most(
+            "and within 3 times one pass that checks no item",
+            3.0,
+            sheets(Call::Write, |row| row.one_pass),
         ),
         least(
             "insertion at least 10 times as fast as the Rust",

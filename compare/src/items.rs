@@ -100,7 +100,7 @@ pub fn has_end(code: u32) -> bool {
 }
 
 /// The words of an item, its keys added to the pool; those of an absent key are 0.
-fn pack(
+pub fn pack(
     code: u32,
     wrapper: u32,
     start: Option<&[u8]>,

@@ -39,6 +39,10 @@ mod positions;
 pub mod random;
 pub mod record;
 mod refusals;
+mod sheet_calls;
+mod sheet_inputs;
+pub mod sheet_lines;
+pub mod sheets;
 mod stand_ins;
 pub mod stored;
 mod stored_calls;
@@ -58,6 +62,7 @@ pub use query_item::QueryItem;
 
 use collect_calls::{ShortLists, ALL_CODES, EACH_SHAPE};
 use random::Random;
+use sheet_inputs::{ShortTexts, MARKS, PIECES, ROWS};
 use std::cmp::Ordering;
 
 pub const SEED: u64 = 0x46_45_52_4E;
@@ -100,6 +105,12 @@ pub struct Size {
     stored: usize,
     /// the short lists that are collected, every two of them
     collected: &'static [ShortLists],
+    /// the texts of few pieces that are read as sheets
+    texts: &'static [ShortTexts],
+    /// of rows in every form, one in so many is read
+    formed: usize,
+    /// whether rows are changed to every byte, and not to some alone
+    more_changes: bool,
     /// the counts of items at and near the limit that lists are tried with, beside none and one
     counts: &'static [usize],
 }
@@ -126,6 +137,15 @@ pub const SHORT: Size = Size {
         ShortLists::of(&[2], &ALL_CODES, 2, 1),
         ShortLists::of(&[3, 4], &EACH_SHAPE, 2, 1),
     ],
+    texts: &[
+        ShortTexts::of("", &ROWS, 6, ""),
+        ShortTexts::of("", &PIECES, 4, ""),
+        ShortTexts::of("RangeFull,,\r\n", &MARKS, 4, ""),
+        ShortTexts::of("Range,", &MARKS, 4, ",05\r\n"),
+        ShortTexts::of("Range,05,", &MARKS, 4, "\r\nKey,05,"),
+    ],
+    formed: 51,
+    more_changes: false,
     counts: &[2_049],
 };
 
@@ -152,6 +172,18 @@ pub const LONG: Size = Size {
         ShortLists::of(&[2, 3], &ALL_CODES, 2, 1),
         ShortLists::of(&[0, 2, 4, 8], &EACH_SHAPE, 2, 1),
     ],
+    texts: &[
+        ShortTexts::of("", &ROWS, 9, ""),
+        ShortTexts::of("", &PIECES, 7, ""),
+        ShortTexts::of("RangeFull,,\r\n", &PIECES, 6, ""),
+        ShortTexts::of("", &MARKS, 6, ""),
+        ShortTexts::of("Range,", &MARKS, 6, ",05\r\n"),
+        ShortTexts::of("Range,05,", &MARKS, 6, ""),
+        ShortTexts::of("Range,05,", &MARKS, 6, "\r\nKey,05,"),
+        ShortTexts::of("", &MARKS, 6, "Key,05,\r\n"),
+    ],
+    formed: 1,
+    more_changes: true,
     counts: &[2_047, 2_048, 2_049],
 };
 
@@ -176,6 +208,7 @@ pub fn run(size: &Size) -> Vec<table::Row> {
     rows.extend(card_calls::run(random, size));
     rows.extend(stored_calls::run(random, size));
     rows.extend(collect_calls::run(random, size));
+    rows.extend(sheet_calls::run(random, size));
     rows
 }
 

@@ -1,9 +1,10 @@
 //! `compare short` takes seconds, `compare long` is the whole; with a FILE besides, the table is written there too. Exit status 1 where
 //! anything disagrees. `compare record FOLDER` writes a sample of the Rust's answers, for programs of ours to replay. `compare cents COUNT`
 //! writes so many invoices with our totals, one a line, for tools/decimal_cents to hold; `compare multiranges COUNT` so many changes of stored
-//! lists with what our calls leave, for tools/multiranges.
+//! lists with what our calls leave, for tools/multiranges; `compare sheets COUNT` so many sheets with what our call reads, for tools/csv_sheets,
+//! and `compare sheets-read` puts that behind the sheets that it is given.
 
-use compare::{invoices, multiranges, record, run, table, Size, LONG, SEED, SHORT};
+use compare::{invoices, multiranges, record, run, sheet_lines, table, Size, LONG, SEED, SHORT};
 use std::{env, io, path::Path, process::ExitCode};
 
 fn main() -> ExitCode {
@@ -22,6 +23,13 @@ fn main() -> ExitCode {
             Ok(count) => multiranges::write(count, &mut io::stdout().lock()).map(|()| 0),
             Err(_) => return usage(),
         },
+        ["sheets", count] => match count.parse() {
+            Ok(count) => sheet_lines::write(count, &mut io::stdout().lock()).map(|()| 0),
+            Err(_) => return usage(),
+        },
+        ["sheets-read"] => {
+            sheet_lines::read(&mut io::stdin().lock(), &mut io::stdout().lock()).map(|()| 0)
+        }
         _ => return usage(),
     };
     match done {
@@ -38,7 +46,7 @@ fn main() -> ExitCode {
 }
 
 fn usage() -> ExitCode {
-    eprintln!("usage: compare short|long [FILE]|record FOLDER|cents COUNT|multiranges COUNT");
+    eprintln!("usage: compare short|long [FILE]|record FOLDER|cents COUNT|multiranges COUNT|sheets COUNT|sheets-read");
     ExitCode::from(2)
 }
 

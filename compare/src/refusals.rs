@@ -10,7 +10,7 @@ pub const MOST_ITEMS: usize = 2_048;
 pub const MOST_AMOUNT: i64 = 1_000_000_000_000;
 pub const MOST_ASKED: usize = 1_000;
 const MOST_POOL: usize = 65_536;
-const MOST_KEY: u32 = 255;
+pub const MOST_KEY: u32 = 255;
 
 #[derive(Clone, Copy, Debug, PartialEq)]
 pub struct Refusal {
@@ -138,6 +138,22 @@ fn clash(
     let plain = old[1] == 0 && new[1] == 0;
     let above = paper::order(new_range[0], old_range[1]).is_gt();
     below || (plain && !above) || same(*old, *new, pool)
+}
+
+/// A list to be written as a sheet, whose items need be neither upright nor in order: the pool, the shape, then 1, 2 and 5 of each (02 §1).
+pub fn plain_items(pool: &[u8], words: &[u32]) -> Checked<()> {
+    self::pool(pool)?;
+    shape(words, 0)?;
+    for (index, item) in words.chunks(6).filter_map(six).enumerate() {
+        let number = match fault(item, pool) {
+            0 if item[1] != 0 => 5,
+            number => number,
+        };
+        if number != 0 {
+            return refuse(number, 0, index);
+        }
+    }
+    Ok(())
 }
 
 /// Two lists for collecting, which need be neither upright nor in order: the pool, ours entirely, theirs entirely (02 §6).

@@ -246,7 +246,8 @@ Written by `make compare`. The inputs are the same in every run, and so is this 
 exhaustively on small domains, at random on large ones, and at the limits (0, 1, 2,047, 2,048 and 2,049 items; keys of 0, 1, 254, 255 and 256
 bytes; pools of 65,535, 65,536 and 65,537 bytes; buffers exactly full and one short; amounts of 10^12 and one more; invoices of 999, 1,000 and
 1,001 keys; u64::MAX). Then, where these are at hand, the totals of invoices are held against Python's decimal (`tools/decimal_cents`),
-and covers and uncovers of stored lists against PostgreSQL's multiranges (`tools/multiranges`); neither is in the table.
+covers and uncovers of stored lists against PostgreSQL's multiranges (`tools/multiranges`), and sheets, read and written, against Python's csv
+(`tools/csv_sheets`); none of these is in the table.
 
 \"As the Rust\" counts calls that answer what the Rust answers. \"As the papers\" counts calls that answer and leave what a small plain reading
 of document 01, and of what is built of 02, in `compare/` says: refusals, the words written and the words not written, which the Rust hasn't;

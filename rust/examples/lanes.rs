@@ -1,24 +1,28 @@
-//! Compares two lists of lanes given as text: what both have, what only ours has, what only theirs has.
+//! Compares two lane sheets, files of comma-separated text: what both have, what only ours has, what only theirs has.
 //!
 //!     cargo run --example lanes -- OURS THEIRS
+//!     cargo run --example lanes -- OURS THEIRS SHARED ONLY_OURS ONLY_THEIRS
 //!
-//! A line of a file is an item as a listing has it, its keys in hexadecimal and `-` for the empty one: `Key 03`, `Range 01 05`, `RangeFull`.
-//! Blank lines and what follows a `#` are passed over.
+//! The first prints the three lists; the second writes each of them as a sheet into a file of its own. A row of a sheet is an item: its name, its
+//! start key and its end key in hexadecimal, as `Range,01,05`, `Key,03,`, `RangeFull,,`; the empty key is `-`, and CR LF ends a row.
 
-use fernsponge::{intersect_many_ordered, Item, KeyAt, Pool, QueryItem, Shown};
+use fernsponge::{intersect_many_ordered, Item, Lists, Pool, Sheet, Shown, Side};
 use std::{env, fs, process::ExitCode};
 
 fn main() -> ExitCode {
     let names: Vec<String> = env::args().skip(1).collect();
-    let [ours, theirs] = &names[..] else {
-        eprintln!("usage: lanes OURS THEIRS");
-        return ExitCode::from(2);
-    };
-    match compared(ours, theirs) {
-        Ok(listing) => {
-            print!("{listing}");
-            ExitCode::SUCCESS
+    let done = match &names[..] {
+        [ours, theirs] => compared(ours, theirs).map(|(pool, lists)| print(&pool, &lists)),
+        [ours, theirs, written @ ..] if written.len() == 3 => {
+            compared(ours, theirs).and_then(|(pool, lists)| write(&pool, &lists, written))
         }
+        _ => {
+            eprintln!("usage: lanes OURS THEIRS [SHARED ONLY_OURS ONLY_THEIRS]");
+            return ExitCode::from(2);
+        }
+    };
+    match done {
+        Ok(()) => ExitCode::SUCCESS,
         Err(why) => {
             eprintln!("lanes: {why}");
             ExitCode::FAILURE
@@ -26,77 +30,53 @@ fn main() -> ExitCode {
     }
 }
 
-fn compared(ours: &str, theirs: &str) -> Result<String, String> {
+/// The three lists of two files, and the pool that has the keys of all of them.
+fn compared(ours: &str, theirs: &str) -> Result<(Pool, Lists), String> {
     let mut pool = Pool::new();
-    let ours = read(ours, &mut pool)?;
-    let theirs = read(theirs, &mut pool)?;
-    let lists =
-        intersect_many_ordered(pool.bytes(), &ours, &theirs).map_err(|why| why.to_string())?;
-    let mut listing = String::new();
-    for (name, items) in [
-        ("shared", lists.shared),
-        ("ours", lists.ours),
-        ("theirs", lists.theirs),
-    ] {
-        listing += &format!("{name} {}\n", items.len());
-        for item in items {
-            let pool = pool.bytes();
-            listing += &format!("{}\n", Shown { item, pool });
-        }
-    }
-    Ok(listing)
+    let our_items = read(ours, &mut pool)?;
+    let their_items = read(theirs, &mut pool)?;
+    let lists = intersect_many_ordered(pool.bytes(), &our_items, &their_items).map_err(|why| {
+        let name = match why.side {
+            Side::Ours => ours,
+            Side::Theirs => theirs,
+        };
+        format!("{name}: row {}, counted from 0: {why}", why.index)
+    })?;
+    Ok((pool, lists))
 }
 
-/// The items of a file, their keys added to the pool.
+/// The items of a file, their keys behind those that the pool has.
 fn read(name: &str, pool: &mut Pool) -> Result<Vec<Item>, String> {
-    let text = fs::read_to_string(name).map_err(|why| format!("cannot read {name}: {why}"))?;
-    let mut items = vec![];
-    for (i, line) in text.lines().enumerate() {
-        let line = line.split('#').next().unwrap_or_default();
-        let words: Vec<&str> = line.split_whitespace().collect();
-        if let Some((kind, keys)) = words.split_first() {
-            let item = item(kind, keys, pool);
-            items.push(item.map_err(|why| format!("{name}, line {}: {why}", i + 1))?);
+    let text = fs::read(name).map_err(|why| format!("cannot read {name}: {why}"))?;
+    Sheet::read_into(&text, pool).map_err(|why| format!("{name}: {why}"))
+}
+
+fn print(pool: &Pool, lists: &Lists) {
+    for (title, items) in [
+        ("shared", &lists.shared),
+        ("ours", &lists.ours),
+        ("theirs", &lists.theirs),
+    ] {
+        println!("{title} {}", items.len());
+        for &item in items {
+            let pool = pool.bytes();
+            println!("{}", Shown { item, pool });
         }
     }
-    Ok(items)
 }
 
-fn item(kind: &str, keys: &[&str], pool: &mut Pool) -> Result<Item, String> {
-    let keys: Vec<KeyAt> = keys
+/// Nothing is written where a list makes no sheet, as it has more than 2,048 items.
+fn write(pool: &Pool, lists: &Lists, names: &[String]) -> Result<(), String> {
+    let mut texts = vec![];
+    for (name, items) in names
         .iter()
-        .map(|key| {
-            pool.add(&bytes(key)?)
-                .map_err(|why| format!("{key}: {why}"))
-        })
-        .collect::<Result<_, _>>()?;
-    Ok(match (kind, &keys[..]) {
-        ("Key", &[a]) => QueryItem::Key(a),
-        ("Range", &[a, b]) => QueryItem::Range(a, b),
-        ("RangeInclusive", &[a, b]) => QueryItem::RangeInclusive(a, b),
-        ("RangeFull", &[]) => QueryItem::RangeFull,
-        ("RangeFrom", &[a]) => QueryItem::RangeFrom(a),
-        ("RangeTo", &[b]) => QueryItem::RangeTo(b),
-        ("RangeToInclusive", &[b]) => QueryItem::RangeToInclusive(b),
-        ("RangeAfter", &[a]) => QueryItem::RangeAfter(a),
-        ("RangeAfterTo", &[a, b]) => QueryItem::RangeAfterTo(a, b),
-        ("RangeAfterToInclusive", &[a, b]) => QueryItem::RangeAfterToInclusive(a, b),
-        _ => return Err(format!("no item: {kind} with {} keys", keys.len())),
+        .zip([&lists.shared, &lists.ours, &lists.theirs])
+    {
+        let (count, text) = (items.len(), Sheet::write(pool.bytes(), items));
+        texts.push(text.map_err(|why| format!("no sheet of {count} items for {name}: {why}"))?);
     }
-    .into())
-}
-
-fn bytes(key: &str) -> Result<Vec<u8>, String> {
-    let bad =
-        || format!("{key} is no key: an even number of hexadecimal digits, or - for the empty key");
-    if key == "-" {
-        return Ok(vec![]);
+    for (name, text) in names.iter().zip(texts) {
+        fs::write(name, text).map_err(|why| format!("cannot write {name}: {why}"))?;
     }
-    if !key.is_ascii() || key.len() % 2 != 0 {
-        return Err(bad());
-    }
-    (0..key.len())
-        .step_by(2)
-        .map(|i| u8::from_str_radix(&key[i..i + 2], 16).map_err(|_| bad()))
-        .collect()
+    Ok(())
 }

@@ -11,6 +11,12 @@ use std::fmt;
 /// The most bytes that a pool has.
 const MOST_POOL: usize = 65_536;
 
+/// The most bytes that a key has.
+pub(crate) const MOST_KEY: usize = 255;
+
+/// The most items that a list has.
+pub(crate) const MOST_ITEMS: usize = 2_048;
+
 /// A key as a part of the pool.
 #[derive(Clone, Copy, Debug, Default, PartialEq, Eq, Hash)]
 #[repr(C)]
@@ -57,7 +63,7 @@ impl Pool {
                 index: 0,
             })
         };
-        if key.len() > 255 {
+        if key.len() > MOST_KEY {
             return refused(2);
         }
         if self.bytes.len() + key.len() > MOST_POOL {
@@ -111,11 +117,42 @@ impl Pool {
         Ok(())
     }
 
+    /// Lends a call up to so many of the bytes that are free behind the keys, or none where the system has no memory for them. The call tells how
+    /// many of them it has written, which are the pool's from then on; where it refuses, the pool is as it was.
+    pub(crate) fn lend(
+        &mut self,
+        most: usize,
+        call: impl FnOnce(&mut [u8]) -> Result<usize, Refusal>,
+    ) -> Result<(), Refusal> {
+        let used = self.bytes.len();
+        let free = most.min(MOST_POOL - used);
+        if self.bytes.try_reserve_exact(free).is_ok() {
+            self.bytes.resize(used + free, 0);
+        }
+        let written = call(&mut self.bytes[used..]);
+        self.bytes.truncate(used + written.unwrap_or(0));
+        written.map(|_| ())
+    }
+
     /// The bytes, as every call takes them.
     pub fn bytes(&self) -> &[u8] {
         &self.bytes
     }
 }
+
+/// The name of each kind, by its code, and whether it has a start key and an end key.
+pub(crate) const KINDS: [(&str, [bool; 2]); 10] = [
+    ("Key", [true, false]),
+    ("Range", [true, true]),
+    ("RangeInclusive", [true, true]),
+    ("RangeFull", [false, false]),
+    ("RangeFrom", [true, false]),
+    ("RangeTo", [false, true]),
+    ("RangeToInclusive", [false, true]),
+    ("RangeAfter", [true, false]),
+    ("RangeAfterTo", [true, true]),
+    ("RangeAfterToInclusive", [true, true]),
+];
 
 /// The ten kinds of ranges.
 #[derive(Clone, Copy, Debug, PartialEq, Eq, Hash)]
@@ -251,6 +288,27 @@ impl Item {
     pub fn shown(self, pool: &[u8]) -> String {
         Shown { item: self, pool }.to_string()
     }
+
+    /// Its name and the keys that it has, start and end, if its code is one of the ten.
+    pub(crate) fn named(self) -> Option<(&'static str, [Option<KeyAt>; 2])> {
+        let [code, _, offset, length, end_offset, end_length] = self.0;
+        let &(name, [has_start, has_end]) = KINDS.get(code as usize)?;
+        let start = KeyAt { offset, length };
+        let end = KeyAt {
+            offset: end_offset,
+            length: end_length,
+        };
+        Some((name, [has_start.then_some(start), has_end.then_some(end)]))
+    }
+
+    /// The item whose keys stand so many bytes further on; the words of a key that it does not have stay 0.
+    pub(crate) fn moved(mut self, by: u32) -> Self {
+        let (_, keys) = self.named().unwrap_or_default();
+        for (word, key) in [2, 4].into_iter().zip(keys) {
+            self.0[word] += key.map_or(0, |_| by);
+        }
+        self
+    }
 }
 
 impl From<QueryItem> for Item {
@@ -270,23 +328,11 @@ pub struct Shown<'a> {
 
 impl fmt::Display for Shown<'_> {
     fn fmt(&self, f: &mut fmt::Formatter<'_>) -> fmt::Result {
-        let Some(range) = self.item.range_of() else {
+        let Some((name, keys)) = self.item.named() else {
             return write!(f, "no item: {:?}", self.item.words());
         };
-        let (name, keys) = match range {
-            QueryItem::Key(a) => ("Key", vec![a]),
-            QueryItem::Range(a, b) => ("Range", vec![a, b]),
-            QueryItem::RangeInclusive(a, b) => ("RangeInclusive", vec![a, b]),
-            QueryItem::RangeFull => ("RangeFull", vec![]),
-            QueryItem::RangeFrom(a) => ("RangeFrom", vec![a]),
-            QueryItem::RangeTo(b) => ("RangeTo", vec![b]),
-            QueryItem::RangeToInclusive(b) => ("RangeToInclusive", vec![b]),
-            QueryItem::RangeAfter(a) => ("RangeAfter", vec![a]),
-            QueryItem::RangeAfterTo(a, b) => ("RangeAfterTo", vec![a, b]),
-            QueryItem::RangeAfterToInclusive(a, b) => ("RangeAfterToInclusive", vec![a, b]),
-        };
         f.write_str(name)?;
-        for key in keys {
+        for key in keys.into_iter().flatten() {
             f.write_str(" ")?;
             match key.bytes(self.pool) {
                 [] => f.write_str("-")?,

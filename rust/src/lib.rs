@@ -6,7 +6,8 @@
 //! input itself, and answers, or refuses with a number, a side and an index ([`Refusal`]). A refused call changes nothing.
 //!
 //! Keys stand one after another in a pool of bytes that the caller keeps ([`Pool`] makes one), and an [`Item`] names its keys by offset and
-//! length. A list of items is a slice of them. Where insertions have left keys that no item names, [`Pool::collect`] drops them.
+//! length. A list of items is a slice of them. Where insertions have left keys that no item names, [`Pool::collect`] drops them. Lists that are
+//! mailed as comma-separated text are read, and written, by [`Sheet`].
 //!
 //! ```
 //! use fernsponge::{intersect_many_ordered, Item, Pool};
@@ -32,6 +33,7 @@ mod lists;
 mod memory;
 mod positions;
 mod refusal;
+mod sheet;
 pub mod words;
 
 pub use ask::{
@@ -47,3 +49,4 @@ pub use lists::{
 };
 pub use positions::{position_of, PositionIntervals, PositionMismatch, Ranges, RefetchPlan, Span};
 pub use refusal::{Reason, Refusal, Side};
+pub use sheet::{Sheet, SheetCause, SheetError, SheetFault};

@@ -2,8 +2,8 @@
 
 use std::fmt;
 
-/// Whose input is meant: ours or theirs. Position items, intervals, and a card's items and amounts are ours; proved positions, spans, windows
-/// of a plan, an item to insert and the keys of an invoice are theirs.
+/// Whose input is meant: ours or theirs. Position items, intervals, sheets, and a card's items and amounts are ours; proved positions, spans,
+/// windows of a plan, an item to insert and the keys of an invoice are theirs.
 #[derive(Clone, Copy, Debug, PartialEq, Eq, Hash)]
 pub enum Side {
     /// The first of two lists, or the only input.
@@ -19,15 +19,15 @@ pub enum Reason {
     /// 1: an unknown code or wrapper, words of an absent key that are not 0, a list of more than 2,048 items, a pool of more than 65,536
     /// bytes, a count beyond its buffer, an odd number of interval, window or key words, a card that has not one amount for each item.
     Malformed,
-    /// 2: a key longer than 255 bytes, or reaching past the pool: of an item, or of an invoice.
+    /// 2: a key longer than 255 bytes, or reaching past the pool: of an item, of a row of a sheet, or of an invoice.
     KeyOutside,
     /// 3: an item whose start stands above its end.
     NotUpright,
     /// 4: an item that does not stand wholly after the one before it, or is out of insertion order.
     OutOfOrder,
-    /// 5: a wrapped item in a position query.
+    /// 5: a wrapped item in a position query, or in a list that is to be written as a sheet.
     Wrapped,
-    /// 6: the result needs more room than was lent.
+    /// 6: the result needs more room than was lent, or a sheet has more than 2,048 rows.
     NoRoom,
     /// 7: a position key that is not 8 bytes.
     NoPosition,
@@ -35,6 +35,8 @@ pub enum Reason {
     NotAscending,
     /// 9: intervals that are not ascending, nonempty and apart, or a stored total that is not the number of the positions in them.
     NotCanonical,
+    /// 12: a row of a sheet that says no item. [`SheetError`](crate::SheetError) tells where and why.
+    BadRow,
     /// 14: an amount of a card below -10^12 or above 10^12 ten-thousandths.
     AmountOutside,
     /// 15: an invoice of more than 1,000 keys.
@@ -59,12 +61,12 @@ pub enum Reason {
 /// ```
 #[derive(Clone, Copy, Debug, PartialEq, Eq, Hash)]
 pub struct Refusal {
-    /// The number of the refusal: 1 to 9, or 14 to 16.
+    /// The number of the refusal: 1 to 9, 12, or 14 to 16.
     pub number: u8,
     /// Whose input is meant.
     pub side: Side,
-    /// The index of the item, amount, key, pair or position that is meant, from 0; a wrong stored total has the number of pairs; a pool, the
-    /// shape of a list, a card or an invoice, want of room, too many keys and windows of no rows have 0.
+    /// The index of the item, row, amount, key, pair or position that is meant, from 0; a wrong stored total has the number of pairs; a pool,
+    /// the shape of a list, a card or an invoice, want of room, too many keys and windows of no rows have 0.
     pub index: u64,
 }
 
@@ -97,6 +99,7 @@ impl Refusal {
             7 => Reason::NoPosition,
             8 => Reason::NotAscending,
             9 => Reason::NotCanonical,
+            12 => Reason::BadRow,
             14 => Reason::AmountOutside,
             15 => Reason::TooManyKeys,
             16 => Reason::EmptyWindows,
@@ -124,7 +127,7 @@ impl fmt::Display for Refusal {
             Reason::KeyOutside => ("item", "a key of it is longer than 255 bytes or reaches past the pool"),
             Reason::NotUpright => ("item", "its start stands above its end"),
             Reason::OutOfOrder => ("item", "it does not stand in order after the items before it"),
-            Reason::Wrapped => ("item", "a wrapped item cannot ask for positions"),
+            Reason::Wrapped => ("item", "a wrapped item cannot ask for positions, and has no row in a sheet"),
             Reason::NoRoom => return write!(f, "the result needs more room than was lent (refusal 6)"),
             Reason::NoPosition => ("item", "a position key has exactly 8 bytes"),
             Reason::NotAscending => (
@@ -136,6 +139,13 @@ impl fmt::Display for Refusal {
                 "interval",
                 "intervals are not empty, ascend, and stand apart from each other; where the index is their number, the stored total is not theirs",
             ),
+            Reason::BadRow => {
+                return write!(
+                    f,
+                    "row {} of the sheet is bad: a row is an item's name, its start key and its end key, and ends in CR LF (refusal 12)",
+                    self.index
+                )
+            }
             Reason::AmountOutside => ("amount", "it is not from -100,000,000 to 100,000,000 currency units"),
             Reason::TooManyKeys => return write!(f, "an invoice has at most 1,000 keys (refusal 15)"),
             Reason::EmptyWindows => return write!(f, "windows of at most 0 rows can fetch nothing (refusal 16)"),

@@ -216,6 +216,27 @@ mod c {
             used: &mut u64,
         ) -> u64;
 
+        pub fn fernsponge_read_sheet(
+            text: *const u8,
+            text_length: usize,
+            pool: *mut u8,
+            pool_length: usize,
+            out: *mut u32,
+            out_length: usize,
+            items: &mut u64,
+            bytes: &mut u64,
+        ) -> u64;
+
+        pub fn fernsponge_write_sheet(
+            pool: *const u8,
+            pool_length: usize,
+            words: *const u32,
+            words_length: usize,
+            text: *mut u8,
+            text_length: usize,
+            bytes: &mut u64,
+        ) -> u64;
+
         pub fn fernsponge_to_cents(amount: i64) -> i64;
 
         pub fn fernsponge_rate(
@@ -586,6 +607,45 @@ pub fn collect(
             theirs.as_mut_ptr(),
             theirs.len(),
             used,
+        )
+    }
+}
+
+/// Writes the keys of a sheet to the front of `pool`, its items to the front of `out`, how many items these are, and how many bytes the keys have.
+pub fn read_sheet(
+    text: &[u8],
+    pool: &mut [u8],
+    out: &mut [u32],
+    items: &mut u64,
+    bytes: &mut u64,
+) -> u64 {
+    // SAFETY: as in `compare_boundaries`, of each of the four that are lent for writing
+    unsafe {
+        c::fernsponge_read_sheet(
+            text.as_ptr(),
+            text.len(),
+            pool.as_mut_ptr(),
+            pool.len(),
+            out.as_mut_ptr(),
+            out.len(),
+            items,
+            bytes,
+        )
+    }
+}
+
+/// Writes plain items as a sheet to the front of `text`, and how many bytes it has.
+pub fn write_sheet(pool: &[u8], words: &[u32], text: &mut [u8], bytes: &mut u64) -> u64 {
+    // SAFETY: as in `compare_boundaries`, of both that are lent for writing
+    unsafe {
+        c::fernsponge_write_sheet(
+            pool.as_ptr(),
+            pool.len(),
+            words.as_ptr(),
+            words.len(),
+            text.as_mut_ptr(),
+            text.len(),
+            bytes,
         )
     }
 }

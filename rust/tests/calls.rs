@@ -667,6 +667,686 @@ fn a_refused_collection_leaves_what_is_lent() {
     }
 }
 
+/// A sheet of every kind, with keys of one byte and empty ones, and the words of its items over the keys as they are packed.
+const EVERY_KIND: (&str, [[u32; 6]; 13]) = (
+    "Key,01,\r\nRange,02,03\r\nRangeInclusive,04,-\r\nRangeFull,,\r\nRangeFrom,05,\r\nRangeTo,,06\r\nRangeToInclusive,,-\r\nRangeAfter,-,\r\n\
+     RangeAfterTo,-,07\r\nRangeAfterToInclusive,08,09\r\nKey,-,\r\nKey,01,\r\nRangeInclusive,FF,00\r\n",
+    [
+        [0, 0, 0, 1, 0, 0],
+        [1, 0, 1, 1, 2, 1],
+        [2, 0, 3, 1, 4, 0],
+        [3, 0, 0, 0, 0, 0],
+        [4, 0, 4, 1, 0, 0],
+        [5, 0, 0, 0, 5, 1],
+        [6, 0, 0, 0, 6, 0],
+        [7, 0, 6, 0, 0, 0],
+        [8, 0, 6, 0, 6, 1],
+        [9, 0, 7, 1, 8, 1],
+        [0, 0, 9, 0, 0, 0],
+        [0, 0, 9, 1, 0, 0],
+        [2, 0, 10, 1, 11, 1],
+    ],
+);
+
+#[test]
+fn sheets_there_and_back() {
+    let (text, items) = EVERY_KIND;
+    let items = items.map(Item::from_words);
+    let sheet = Sheet::read(text.as_bytes()).unwrap();
+    assert_eq!(sheet.items, items);
+    assert_eq!(sheet.pool.bytes(), [1, 2, 3, 4, 5, 6, 7, 8, 9, 1, 0xFF, 0]);
+    assert_eq!(Sheet::write(sheet.pool.bytes(), &items).unwrap(), text);
+    // keys that overlap, and stand in another order: the same by kind and bytes
+    let (pool, ours, theirs) = overlapping();
+    let plain: Vec<Item> = [&ours[..], &theirs]
+        .concat()
+        .into_iter()
+        .map(|item| item.range_of().unwrap().into())
+        .collect();
+    let text = Sheet::write(&pool, &plain).unwrap();
+    assert_eq!(
+        text,
+        "RangeInclusive,0506,07\r\nKey,0506,\r\nRangeTo,,-\r\nRangeAfterTo,03,05\r\nRangeFull,,\r\nRangeAfterToInclusive,-,07\r\nKey,03,\r\n"
+    );
+    let sheet = Sheet::read(text.as_bytes()).unwrap();
+    let shown = |pool: &[u8], items: &[Item]| -> Vec<String> {
+        items.iter().map(|item| item.shown(pool)).collect()
+    };
+    assert_eq!(
+        shown(sheet.pool.bytes(), &sheet.items),
+        shown(&pool, &plain)
+    );
+    assert_eq!(
+        sheet.pool.bytes(),
+        [5, 6, 7, 5, 6, 3, 5, 7, 3],
+        "packed, equal keys each time"
+    );
+}
+
+#[test]
+fn sheets_as_others_write_them() {
+    for (text, plain) in [
+        ("", ""),
+        ("Key,03,", "Key,03,\r\n"),
+        ("RangeFull,,", "RangeFull,,\r\n"),
+        ("RangeTo,,0a", "RangeTo,,0A\r\n"),
+        ("Key,aBcDeF09,\r\n", "Key,ABCDEF09,\r\n"),
+        ("\"Key\",\"03\",\"\"\r\n", "Key,03,\r\n"),
+        ("Key,\"-\",\"\"", "Key,-,\r\n"),
+        (
+            "\"RangeFull\",\"\",\r\n\"Range\",01,\"05\"",
+            "RangeFull,,\r\nRange,01,05\r\n",
+        ),
+    ] {
+        let sheet = Sheet::read(text.as_bytes()).unwrap();
+        let written = Sheet::write(sheet.pool.bytes(), &sheet.items).unwrap();
+        assert_eq!(written, plain, "{text:?}");
+        // and its plain form is read as the same items, word by word
+        let again = Sheet::read(written.as_bytes()).unwrap();
+        assert_eq!(again.items, sheet.items);
+        assert_eq!(again.pool.bytes(), sheet.pool.bytes());
+    }
+}
+
+#[test]
+fn bad_rows() {
+    use SheetCause::*;
+    for (text, column, cause) in [
+        ("\u{FEFF}Key,03,", 0, ByteOrderMark),
+        ("\u{FEFF}\"Key\",03,", 0, ByteOrderMark),
+        ("\r\n", 0, BlankRow),
+        ("Key", 1, TooFewFields),
+        ("Key;03;\r\n", 1, TooFewFields),
+        ("Key,03\r\n", 2, TooFewFields),
+        ("\"Key\",\"03\"", 2, TooFewFields),
+        ("\"Key\"\r\n", 1, TooFewFields),
+        ("Key,03,,", 3, TooManyFields),
+        ("Key,03,\"\",x\r\n", 3, TooManyFields),
+        ("Key,03,\r", 2, BareCarriageReturn),
+        ("Key,03,\rKey,05,\r\n", 2, BareCarriageReturn),
+        ("Key\r,03,", 0, BareCarriageReturn),
+        ("\r", 0, BareCarriageReturn),
+        ("\n", 0, BareLineFeed),
+        ("Key,03,\nKey,05,\n", 2, BareLineFeed),
+        ("Key,\"03\"\n,", 1, BareLineFeed),
+        ("\"Key,03,\r\n", 0, UnclosedQuote),
+        ("Key,03,\"", 2, UnclosedQuote),
+        ("Key,\"03\" ,\r\n", 1, TextAfterQuote),
+        ("Key,\"03,\r\nKey,\"05\",", 1, TextAfterQuote),
+        ("Key,03,\"\"x", 2, TextAfterQuote),
+        ("Key, \"03\",", 1, QuoteInside),
+        ("Key\",03,", 0, QuoteInside),
+        ("Key,03,-\"", 2, QuoteInside),
+        ("Key,\"03\"\"\",", 1, DoubledQuote),
+        ("\"Key\"\"", 0, DoubledQuote),
+        ("RangeTo,,\"\"\"\"", 2, DoubledQuote),
+        ("item,start,end\r\n", 0, UnknownName),
+        ("key,03,", 0, UnknownName),
+        ("KEY,03,", 0, UnknownName),
+        ("Keys,03,", 0, UnknownName),
+        (" Key,03,", 0, UnknownName),
+        (",,", 0, UnknownName),
+        ("\"Key\r\n\",03,", 0, UnknownName),
+        ("\"Key,03,\"\r\n,,", 1, TooFewFields),
+        ("Key,,", 1, MissingKey),
+        ("RangeAfter,\"\",", 1, MissingKey),
+        ("RangeInclusive,01,", 2, MissingKey),
+        ("RangeTo,-,05", 1, UnexpectedKey),
+        ("RangeFull,,-", 2, UnexpectedKey),
+        ("Key,03, ", 2, UnexpectedKey),
+        ("Key, 03,", 1, NoDigit(b' ')),
+        ("Key,03h,", 1, NoDigit(b'h')),
+        ("Range,01,0G", 2, NoDigit(b'G')),
+        ("Key,--,", 1, NoDigit(b'-')),
+        ("Key,\"03\r\n\",", 1, NoDigit(b'\r')),
+        ("Key,\u{FF11}0,", 1, NoDigit(0xEF)),
+        ("Key,3,", 1, OddDigits),
+        ("Range,01,00000", 2, OddDigits),
+        // of two faults the one further left, and first of all what keeps the row from being three fields
+        ("Range,0,G", 1, OddDigits),
+        ("Ranges,0,\"", 2, UnclosedQuote),
+    ] {
+        for (before, row) in [("", 0), ("Key,03,\r\n\"RangeFull\",\"\",\"\"\r\n", 2)] {
+            let error = Sheet::read([before, text].concat().as_bytes()).unwrap_err();
+            let refusal = error.refusal;
+            assert_eq!(
+                (refusal.reason(), refusal.side, refusal.index),
+                (Reason::BadRow, Side::Ours, row)
+            );
+            let fault = SheetFault { row, column, cause };
+            assert_eq!(error.fault, Some(fault), "{text:?}");
+            assert_eq!(error.to_string(), format!("{fault} (refusal 12)"));
+            // what follows may make another fault of it, but none in another row
+            for after in ["\r\nKey,03,\r\n", "\r\nKey,3,\r\n"] {
+                let error = Sheet::read([before, text, after].concat().as_bytes()).unwrap_err();
+                assert_eq!((error.refusal, error.fault.unwrap().row), (refusal, row));
+            }
+        }
+    }
+    let refusal = Sheet::read(b"Key,03,\r\n\r\n").unwrap_err().refusal;
+    assert_eq!(
+        refusal.to_string(),
+        "row 1 of the sheet is bad: a row is an item's name, its start key and its end key, and ends in CR LF (refusal 12)"
+    );
+}
+
+#[test]
+fn what_bad_rows_are_told() {
+    for (text, row, column, said) in [
+        ("\u{FEFF}Key,03,", 0, 0, "a byte order mark stands before the name"),
+        ("Key,03,\r\n\r\n", 1, 0, "the row is blank"),
+        ("Key,03", 0, 2, "the row ends before the end key: a row has three fields, separated by commas"),
+        ("Key,03,,", 0, 3, "there is a fourth field: a row has three, separated by commas"),
+        ("Key,03,\r", 0, 2, "a carriage return without a line feed behind it: a row ends in both"),
+        ("Key,03,\n", 0, 2, "a line feed without a carriage return before it: a row ends in both"),
+        ("Key,\"03,", 0, 1, "the quote that the start key starts with is not closed"),
+        ("\"Key\" ,03,", 0, 0, "there is text between the closing quote of the name and the comma or the end of the row"),
+        ("Key, \"03\",", 0, 1, "there is a quote in the start key, which does not start with one"),
+        ("Key,\"03\"\"\",", 0, 1, "there is a doubled quote in the start key: no name and no key has a quote"),
+        ("item,start,end", 0, 0, "no item has this name: names are as Key or RangeInclusive, in exactly this case, and a sheet has no header"),
+        ("Range,01,", 0, 2, "the end key is missing: this item has one, and the empty key is written as -"),
+        ("RangeTo,-,05", 0, 1, "the start key has to be empty: this item does not have one"),
+        ("Key, 03,", 0, 1, "the start key has ' ', which is no hexadecimal digit"),
+        ("Key,\"03\r\n\",", 0, 1, "the start key has '\\r', which is no hexadecimal digit"),
+        ("Key,03,\r\nRange,01,5", 1, 2, "the end key has an odd number of hexadecimal digits"),
+    ] {
+        let error = Sheet::read(text.as_bytes()).unwrap_err();
+        assert_eq!(
+            error.to_string(),
+            format!("row {row}, column {column}, counted from 0: {said} (refusal 12)")
+        );
+    }
+}
+
+/// A row whose keys have so many bytes.
+fn row_of(start: usize, end: usize) -> String {
+    let key = |length| "Ab".repeat(length);
+    format!("RangeAfterToInclusive,{},{}\r\n", key(start), key(end))
+}
+
+#[test]
+fn keys_of_a_sheet_that_are_too_long() {
+    let longest = row_of(255, 255);
+    let sheet = Sheet::read(longest.as_bytes()).unwrap();
+    assert_eq!(sheet.items[0].words(), [9, 0, 0, 255, 255, 255]);
+    let written = Sheet::write(sheet.pool.bytes(), &sheet.items).unwrap();
+    assert_eq!(
+        (written.len(), written),
+        (
+            1_045,
+            longest
+                .to_uppercase()
+                .replace("RANGEAFTERTOINCLUSIVE", "RangeAfterToInclusive")
+        )
+    );
+    for (rows, row, column) in [
+        ([row_of(256, 1), row_of(300, 300)].concat(), 0, 1),
+        (
+            [row_of(1, 1), row_of(255, 256), row_of(256, 1)].concat(),
+            1,
+            2,
+        ),
+        // before want of room: more than 2,048 rows, and more than 65,536 bytes
+        (
+            [row_of(255, 255).repeat(2_048), row_of(70_000, 1)].concat(),
+            2_048,
+            1,
+        ),
+    ] {
+        let error = Sheet::read(rows.as_bytes()).unwrap_err();
+        assert_eq!(
+            (
+                error.refusal.reason(),
+                error.refusal.side,
+                error.refusal.index
+            ),
+            (Reason::KeyOutside, Side::Ours, row)
+        );
+        let cause = SheetCause::KeyTooLong;
+        assert_eq!(error.fault, Some(SheetFault { row, column, cause }));
+        let key = ["name", "start key", "end key"][column];
+        assert_eq!(
+            error.to_string(),
+            format!("row {row}, column {column}, counted from 0: the {key} has more than 255 bytes (refusal 2)")
+        );
+        // a bad row behind it comes first
+        let bad = [&rows[..], "Key,3,"].concat();
+        let error = Sheet::read(bad.as_bytes()).unwrap_err();
+        let last = bad.lines().count() as u64 - 1;
+        assert_eq!(
+            (error.refusal.reason(), error.refusal.index),
+            (Reason::BadRow, last)
+        );
+        assert_eq!(error.fault.unwrap().cause, SheetCause::OddDigits);
+    }
+}
+
+#[test]
+fn sheets_in_lent_memory() {
+    let (text, items) = EVERY_KIND;
+    let keys = [1, 2, 3, 4, 5, 6, 7, 8, 9, 1, 0xFF, 0];
+    // what is lent stands between bytes, words and numbers that are not; keys have 12 bytes, and items 78 words
+    for (pool_room, list_room, refused) in [
+        (12, 78, 0),
+        (11, 78, 6),
+        (12, 77, 6),
+        (0, 0, 6),
+        (12, 83, 0),
+        (13, 84, 0),
+        (20, 90, 0),
+    ] {
+        let (mut pool, mut out, mut told) = ([0xEE; 22], [7; 92], [7; 4]);
+        let (items_told, bytes_told) = told.split_at_mut(2);
+        let returned = words::read_sheet(
+            text.as_bytes(),
+            &mut pool[1..1 + pool_room],
+            &mut out[1..1 + list_room],
+            &mut items_told[1],
+            &mut bytes_told[0],
+        );
+        assert_eq!(returned, refused);
+        let (mut left_pool, mut left_out, mut left_told) = ([0xEE; 22], [7; 92], [7; 4]);
+        if refused == 0 {
+            left_pool[1..13].copy_from_slice(&keys);
+            left_out[1..79].copy_from_slice(&items.concat());
+            left_told = [7, 13, 12, 7];
+        }
+        assert_eq!((pool, out, told), (left_pool, left_out, left_told));
+    }
+    let length = text.len();
+    for (room, refused) in [(length, 0), (length - 1, 6), (0, 6), (length + 9, 0)] {
+        let (mut lent, mut told) = (vec![b'.'; length + 11], [7; 3]);
+        let returned =
+            words::write_sheet(&keys, &items.concat(), &mut lent[1..1 + room], &mut told[1]);
+        let mut left = vec![b'.'; length + 11];
+        let mut left_told = [7; 3];
+        if refused == 0 {
+            left[1..1 + length].copy_from_slice(text.as_bytes());
+            left_told[1] = length as u64;
+        }
+        assert_eq!((returned, lent, told), (refused, left, left_told));
+    }
+}
+
+#[test]
+fn sheets_that_are_refused_leave_what_is_lent() {
+    let refusal = |number: u64, index: u64| number + 65_536 * index;
+    let (good, long, bad) = ("Key,03,\r\n", row_of(256, 1), "Key,3,\r\n");
+    let many = good.repeat(2_049);
+    // each fault beside those that stand behind it
+    for (text, pool_room, list_room, refused) in [
+        ([good, &long, bad].concat(), 65_537, 0, refusal(12, 2)),
+        ([&many, bad, &long].concat(), 0, 0, refusal(12, 2_049)),
+        ([good, &long].concat(), 65_537, 0, refusal(1, 0)),
+        (String::new(), 65_537, 6, refusal(1, 0)),
+        ([good, &long].concat(), 0, 0, refusal(2, 1)),
+        ([&many[..], &long].concat(), 0, 0, refusal(2, 2_049)),
+        (many, 65_536, 6 * 2_049, refusal(6, 0)),
+        (good.repeat(2), 1, 12, refusal(6, 0)),
+        (good.repeat(2), 2, 11, refusal(6, 0)),
+    ] {
+        let (mut pool, mut out) = (vec![0xEE; pool_room], vec![7; list_room]);
+        let (mut items, mut bytes) = (7, 7);
+        let returned =
+            words::read_sheet(text.as_bytes(), &mut pool, &mut out, &mut items, &mut bytes);
+        assert_eq!((returned, items, bytes), (refused, 7, 7));
+        assert!(pool.iter().all(|&byte| byte == 0xEE) && out.iter().all(|&word| word == 7));
+    }
+}
+
+#[test]
+fn lists_that_make_no_sheet() {
+    let refusal = |number: u64, index: u64| number + 65_536 * index;
+    let (pool, large) = (pool(), vec![0; 65_537]);
+    let key = [0, 0, 5, 1, 0, 0];
+    let (unknown, absent) = ([10, 1, 256, 1, 0, 0], [0, 1, 256, 1, 0, 1]);
+    let (past, wrapped) = ([0, 1, 256, 1, 0, 0], [0, 1, 5, 1, 0, 0]);
+    // each fault beside those that stand behind it, of which the last is that the text has no room
+    for (pool, words, refused) in [
+        (
+            &large,
+            [&[unknown; 2_049].concat()[..], &[0]].concat(),
+            refusal(1, 0),
+        ),
+        (&large, key.to_vec(), refusal(1, 0)),
+        (&pool, [&key[..], &unknown, &[0]].concat(), refusal(1, 0)),
+        (&pool, [key; 2_049].concat(), refusal(1, 0)),
+        (&pool, [key, unknown, wrapped].concat(), refusal(1, 1)),
+        (&pool, [key, absent, past].concat(), refusal(1, 1)),
+        (&pool, [key, [0, 4, 256, 1, 0, 0]].concat(), refusal(1, 1)),
+        (&pool, [past, unknown, wrapped].concat(), refusal(2, 0)),
+        (
+            &pool,
+            [key, [0, 3, 0, 256, 0, 0], wrapped].concat(),
+            refusal(2, 1),
+        ),
+        (
+            &pool,
+            [key, [2, 0, 5, 1, 255, 2], wrapped].concat(),
+            refusal(2, 1),
+        ),
+        (
+            &pool,
+            [key, [0, 0, u32::MAX, u32::MAX, 0, 0]].concat(),
+            refusal(2, 1),
+        ),
+        (&pool, [key, key, wrapped, past].concat(), refusal(5, 2)),
+        (
+            &pool,
+            [key, [3, 3, 0, 0, 0, 0], unknown].concat(),
+            refusal(5, 1),
+        ),
+        (&pool, [key, [5, 2, 0, 0, 5, 0]].concat(), refusal(5, 1)),
+        (&pool, key.to_vec(), refusal(6, 0)),
+    ] {
+        let (mut text, mut bytes) = ([b'.'; 8], 7);
+        let returned = words::write_sheet(pool, &words, &mut text, &mut bytes);
+        assert_eq!((returned, text, bytes), (refused, [b'.'; 8], 7));
+        if words.len() % 6 == 0 && refused != 6 {
+            let items: Vec<Item> = words
+                .chunks(6)
+                .map(|six| Item::from_words(six.try_into().unwrap()))
+                .collect();
+            let refusal = Sheet::write(pool, &items).unwrap_err();
+            assert_eq!(Err(refusal), Refusal::from_number(refused));
+        }
+    }
+    let counted = Item::new(Wrapper::Count, QueryItem::RangeFull);
+    assert_eq!(
+        Sheet::write(&[], &[counted]).unwrap_err().to_string(),
+        "our item 0: a wrapped item cannot ask for positions, and has no row in a sheet (refusal 5)"
+    );
+    // neither order nor an upright item is asked for
+    let items = [[2, 0, 9, 1, 5, 1], key, key, [1, 0, 5, 1, 5, 1]].map(Item::from_words);
+    assert_eq!(
+        Sheet::write(&pool, &items).unwrap(),
+        "RangeInclusive,09,05\r\nKey,05,\r\nKey,05,\r\nRange,05,05\r\n"
+    );
+    assert_eq!(Sheet::write(&[], &[]).unwrap(), "");
+}
+
+#[test]
+fn as_many_rows_as_there_can_be() {
+    // 2,048 rows, and keys of 65,536 bytes
+    let full = row_of(16, 16).repeat(2_048);
+    let sheet = Sheet::read(full.as_bytes()).unwrap();
+    assert_eq!(
+        (sheet.items.len(), sheet.pool.bytes().len()),
+        (2_048, 65_536)
+    );
+    assert_eq!(sheet.items[2_047].words(), [9, 0, 65_504, 16, 65_520, 16]);
+    let written = Sheet::write(sheet.pool.bytes(), &sheet.items).unwrap();
+    assert!(written.eq_ignore_ascii_case(&full));
+    // one row more, or one byte, have no room
+    let one_more = [&full[..], "RangeFull,,\r\n"].concat();
+    let longer = [&full[row_of(16, 16).len()..], &row_of(17, 16)].concat();
+    for text in [one_more, longer] {
+        let error = Sheet::read(text.as_bytes()).unwrap_err();
+        let refusal = error.refusal;
+        assert_eq!(
+            (refusal.reason(), refusal.side, refusal.index),
+            (Reason::NoRoom, Side::Ours, 0)
+        );
+        assert_eq!(error.fault, None);
+        assert_eq!(
+            error.to_string(),
+            "no room: a sheet has at most 2,048 rows, and the pool that its keys go to at most 65,536 bytes (refusal 6)"
+        );
+    }
+    // the smallest rows, with and without the last line end, of which each needs as much room as there can be
+    for text in ["Key,-,\r\n".repeat(2_048), "RangeFull,,\r\n".repeat(2_048)] {
+        for text in [&text[..], &text[..text.len() - 2]] {
+            assert_eq!(Sheet::read(text.as_bytes()).unwrap().items.len(), 2_048);
+        }
+    }
+    for (text, items) in [("Key,-,", 1), ("Key,-,\r\nKey,-,", 2), ("Key,00,", 1)] {
+        assert_eq!(Sheet::read(text.as_bytes()).unwrap().items.len(), items);
+    }
+}
+
+#[test]
+fn sheets_over_one_pool() {
+    let (text, items) = EVERY_KIND;
+    let alone = Sheet::read(text.as_bytes()).unwrap();
+    let mut pool = Pool::new();
+    let nine = Item::key(pool.add(&[9, 9, 9]).unwrap());
+    let read = Sheet::read_into(text.as_bytes(), &mut pool).unwrap();
+    assert_eq!(pool.bytes(), [&[9, 9, 9], alone.pool.bytes()].concat());
+    for ((there, words), here) in alone.items.iter().zip(items).zip(&read) {
+        assert_eq!(here.shown(pool.bytes()), there.shown(alone.pool.bytes()));
+        // keys that the item has, empty ones too, stand three bytes further on; the words of others are 0
+        let [code, _, start, start_length, end, end_length] = words;
+        let has_start = [0, 1, 2, 4, 7, 8, 9].contains(&code);
+        let has_end = [1, 2, 5, 6, 8, 9].contains(&code);
+        let moved = |has: bool, offset| if has { offset + 3 } else { 0 };
+        let (start, end) = (moved(has_start, start), moved(has_end, end));
+        assert_eq!(
+            here.words(),
+            [code, 0, start, start_length, end, end_length]
+        );
+    }
+    assert_eq!(nine.shown(pool.bytes()), "Key 090909");
+    assert_eq!(Sheet::write(pool.bytes(), &read).unwrap(), text);
+    // new keys go behind those, and what is refused leaves the pool
+    let before = pool.bytes().to_vec();
+    let long = row_of(255, 255).repeat(129);
+    for text in [
+        "Key,3,",
+        &row_of(256, 1),
+        &"Key,03,\r\n".repeat(2_049),
+        &long,
+    ] {
+        assert!(Sheet::read_into(text.as_bytes(), &mut pool).is_err());
+        assert_eq!(pool.bytes(), before);
+    }
+    let last = pool.add(&[7]).unwrap();
+    assert_eq!((last.offset, last.length), (15, 1));
+    // 65,536 bytes together, and not one more
+    let most = [row_of(255, 255).repeat(128), row_of(240, 0)].concat();
+    let most = most.replace(",\r\n", ",-\r\n");
+    let before = pool.bytes().to_vec();
+    let short = Sheet::read_into(most.replace("AbAb,-", "AbAbAb,-").as_bytes(), &mut pool);
+    assert_eq!(short.unwrap_err().refusal.reason(), Reason::NoRoom);
+    assert_eq!(pool.bytes(), before);
+    let items = Sheet::read_into(most.as_bytes(), &mut pool).unwrap();
+    assert_eq!(pool.bytes().len(), 65_536);
+    assert_eq!(items[128].words(), [9, 0, 65_296, 240, 65_536, 0]);
+    assert!(Sheet::write(pool.bytes(), &items)
+        .unwrap()
+        .eq_ignore_ascii_case(&most));
+    // a full pool takes a sheet without key bytes
+    let none = Sheet::read_into(b"Key,-,\r\nRangeFull,,", &mut pool).unwrap();
+    assert_eq!(none[0].words(), [0, 0, 65_536, 0, 0, 0]);
+    assert!(Sheet::read_into(b"Key,00,", &mut pool).is_err());
+    assert_eq!(Sheet::read_into(b"", &mut pool), Ok(vec![]));
+}
+
+#[test]
+fn two_sheets_compared() {
+    let mut pool = Pool::new();
+    let ours =
+        Sheet::read_into(b"RangeInclusive,01,03\r\nRangeInclusive,07,09", &mut pool).unwrap();
+    let theirs = Sheet::read_into(b"\"RangeInclusive\",\"02\",\"08\"\r\n", &mut pool).unwrap();
+    let lists = intersect_many_ordered(pool.bytes(), &ours, &theirs).unwrap();
+    for (items, text) in [
+        (
+            lists.shared,
+            "RangeInclusive,02,03\r\nRangeInclusive,07,08\r\n",
+        ),
+        (lists.ours, "Range,01,02\r\nRangeAfterToInclusive,08,09\r\n"),
+        (lists.theirs, "RangeAfterTo,03,07\r\n"),
+    ] {
+        assert_eq!(Sheet::write(pool.bytes(), &items).unwrap(), text);
+    }
+}
+
+/// What looking at a text again finds wrong with its rows, also where the library reads it.
+fn bad_row_in(text: &[u8]) -> Option<SheetFault> {
+    let bad_row = Refusal::from_number(12).unwrap_err();
+    SheetError::new(bad_row, text).fault
+}
+
+/// Reads a text and looks at it again: the fault of a bad row, which is in the row that is refused; or none, and then none is found.
+fn read_and_looked_at(text: &[u8]) -> Option<SheetFault> {
+    let (mut pool, mut out, mut items, mut bytes) = ([0; 2_048], [0; 6 * 64], 0, 0);
+    let returned = words::read_sheet(text, &mut pool, &mut out, &mut items, &mut bytes);
+    let found = bad_row_in(text);
+    let refused = Refusal::from_number(returned).err();
+    let row = refused
+        .filter(|refusal| refusal.reason() == Reason::BadRow)
+        .map(|refusal| refusal.index);
+    assert_eq!(found.map(|fault| fault.row), row, "{}", text.escape_ascii());
+    if let Some(refusal) = refused {
+        let error = SheetError::new(refusal, text);
+        match refusal.reason() {
+            Reason::BadRow => assert_eq!(error.fault, found),
+            Reason::KeyOutside => {
+                let fault = error.fault.unwrap();
+                assert_eq!(
+                    (fault.row, fault.cause),
+                    (refusal.index, SheetCause::KeyTooLong)
+                );
+            }
+            _ => assert_eq!(error.fault, None),
+        }
+    }
+    found
+}
+
+/// Numbers that are the same in each run.
+struct Numbers(u64);
+
+impl Numbers {
+    fn below(&mut self, bound: usize) -> usize {
+        self.0 ^= self.0 << 13;
+        self.0 ^= self.0 >> 7;
+        self.0 ^= self.0 << 17;
+        (self.0 >> 16) as usize % bound
+    }
+
+    fn one_of<T: Copy>(&mut self, things: &[T]) -> T {
+        things[self.below(things.len())]
+    }
+
+    /// A field, quoted at times.
+    fn field(&mut self, text: &str) -> String {
+        match self.below(6) {
+            0 => format!("\"{text}\""),
+            _ => text.to_string(),
+        }
+    }
+
+    /// The digits of a key, now and then of one that is too long; none where there is no key.
+    fn key(&mut self, has: bool) -> String {
+        match self.below(200) {
+            _ if !has => String::new(),
+            0 => "5a".repeat(255),
+            1 => "5a".repeat(256),
+            _ => self
+                .one_of(&["-", "00", "05", "0aF0", "ffFF00"])
+                .to_string(),
+        }
+    }
+
+    /// A good row, without its line end.
+    fn row(&mut self) -> String {
+        let (name, has_start, has_end) = self.one_of(&[
+            ("Key", true, false),
+            ("Range", true, true),
+            ("RangeInclusive", true, true),
+            ("RangeFull", false, false),
+            ("RangeFrom", true, false),
+            ("RangeTo", false, true),
+            ("RangeToInclusive", false, true),
+            ("RangeAfter", true, false),
+            ("RangeAfterTo", true, true),
+            ("RangeAfterToInclusive", true, true),
+        ]);
+        let (start, end) = (self.key(has_start), self.key(has_end));
+        let (start, end) = (self.field(&start), self.field(&end));
+        format!("{},{start},{end}", self.field(name))
+    }
+
+    /// A good sheet, in which up to three places are damaged.
+    fn sheet(&mut self) -> Vec<u8> {
+        let rows: Vec<String> = (0..self.below(5)).map(|_| self.row()).collect();
+        let mut text = rows.join("\r\n").into_bytes();
+        if self.below(4) != 0 && !rows.is_empty() {
+            text.extend(b"\r\n");
+        }
+        for _ in 0..self.below(4) {
+            let from = self.below(text.len() + 1);
+            let to = (from + self.one_of(&[0, 0, 1, 1, 2, 3])).min(text.len());
+            let put = self.one_of(&[
+                &b""[..],
+                b"\"",
+                b"\"\"",
+                b",",
+                b"\r",
+                b"\n",
+                b"\r\n",
+                b"-",
+                b"0",
+                b"G",
+                b" ",
+                b"\xEF\xBB\xBF",
+                b"\xFF",
+                b"Key",
+                b"Key,03,\r\n",
+            ]);
+            text.splice(from..to, put.iter().copied());
+        }
+        text
+    }
+}
+
+#[test]
+fn a_cause_for_every_bad_row() {
+    let mut numbers = Numbers(0x5EED);
+    let (mut causes, mut read) = (HashSet::new(), 0);
+    for _ in 0..20_000 {
+        let text = numbers.sheet();
+        match read_and_looked_at(&text) {
+            Some(fault) => {
+                causes.insert(std::mem::discriminant(&fault.cause));
+            }
+            None => read += 1,
+        }
+        // what is read is written in its plain form, which is read as the same
+        if let Ok(sheet) = Sheet::read(&text) {
+            let plain = Sheet::write(sheet.pool.bytes(), &sheet.items).unwrap();
+            let again = Sheet::read(plain.as_bytes()).unwrap();
+            assert_eq!(
+                (again.pool.bytes(), again.items),
+                (sheet.pool.bytes(), sheet.items)
+            );
+        }
+    }
+    // all but KeyTooLong, which is no bad row
+    assert_eq!(causes.len(), 15);
+    assert!((4_000..16_000).contains(&read), "{read} of 20,000 are read");
+}
+
+#[test]
+fn every_short_text_is_read_or_has_a_cause() {
+    // up to six of these parts, alone and behind the front of a row
+    let parts = [&b"Key"[..], b",", b"\"", b"\r", b"\n", b"-", b"05", b"5"];
+    let mut read = 0;
+    for front in [&b""[..], b"Key,", b"Key,05,"] {
+        for length in 0..=6 {
+            for number in 0..parts.len().pow(length) {
+                let mut text = front.to_vec();
+                for place in 0..length {
+                    text.extend(parts[number / parts.len().pow(place) % parts.len()]);
+                }
+                read += usize::from(read_and_looked_at(&text).is_none());
+            }
+        }
+    }
+    // of 898,779: as many as a regular expression for sheets of keys finds
+    assert_eq!(read, 85);
+}
+
 /// [01,05), then [05,09], then the key 0B, which is wrapped.
 fn lanes() -> [Item; 3] {
     [

@@ -5,3 +5,4 @@ pub mod Positions
 pub mod Plans
 pub mod Cards
 pub mod Collecting
+pub mod Sheets

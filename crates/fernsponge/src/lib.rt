@@ -5,8 +5,8 @@
 // only where it returns 0. A place for an answer of fixed size has that size, so that 6 is want of room for a list, pairs or a text alone. An
 // item that may be missing is seven words: 1 and its words, or seven times 0. A call that refuses nothing returns its answer.
 // Definitions: specs/Answers.antt (numbers, what is returned and left), specs/Calls.antt (kinds as numbers), specs/Intersect.antt (modules 3
-// and 4), specs/Positions.antt (module 6, section 4 of document 02), specs/Plans.antt, specs/Cards.antt and specs/Collecting.antt (its sections
-// 9, 8 and 6). Laws: proofs/Laws.antt.
+// and 4), specs/Positions.antt (module 6, section 4 of document 02), specs/Plans.antt, specs/Cards.antt, specs/Collecting.antt and
+// specs/Sheets.antt (its sections 9, 8, 6 and 1). Laws: proofs/Laws.antt.
 pub mod cards;
 pub mod collecting;
 pub mod insertion;
@@ -16,6 +16,7 @@ mod numbers;
 pub mod pair;
 pub mod plans;
 pub mod positions;
+pub mod sheets;
 pub mod stored;
 
 ghost use mathlib.Core.Path.{_≡_};

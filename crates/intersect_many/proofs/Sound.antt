@@ -15,7 +15,7 @@ use Rattle.query_item.specs.Items.{absent, itemOf, queryItem}
 use Rattle.query_item.specs.Boundaries.{toRangeSet, rangeOf, upright}
 use Rattle.query_item.proofs.Laws.{upright-whole}
 use Rattle.item_check.specs.Checks.{hasStart, hasEnd, malformed, keyOut, outside, uprightFault, itemsOf}
-use Rattle.item_check.proofs.Laws.{or-false, AllSound, AcceptedList, sound-parts}
+use Rattle.item_check.proofs.Laws.{or-false, AllSound, AcceptedList, sound-parts, formed-parts}
 use Rattle.intervals.specs.Intervals.{Above, Strict}
 use Rattle.intervals.proofs.Laws.{All, AboveOf}
 use Rattle.intersect_many.specs.Lists.{setsOf}
@@ -40,17 +40,11 @@ code-keys pool (suc (suc (suc (suc (suc (suc (suc (suc zero)))))))) a b h e = or
 code-keys pool (suc (suc (suc (suc (suc (suc (suc (suc (suc zero))))))))) a b h e = or-false (keyOut pool a) (keyOut pool b) .0 e
 code-keys pool (suc (suc (suc (suc (suc (suc (suc (suc (suc (suc c)))))))))) a b h e = absurd (omega arith)
 
-code-known : (it : ItemWords) → malformed it ≡ false → it .code ≤ 9
-code-known it e =
-    let a = or-false _ _ .0 e .0 in
-    let b = or-false _ _ .0 a .0 in
-    ltb-false 9 (it .code) (or-false (ltb 9 (it .code)) (ltb 3 (it .wrapper)) .0 b .0)
-
 module _ (pool : List ℕ) (n : ℕ) (fits : size pool ≤ n) where
   item-fine : (it : ItemWords) → uprightFault pool it ≡ 0 → Fine pool n fits (rangeOf it)
   item-fine it e =
       let parts = sound-parts pool it e in
-      let keys = code-keys pool (it .code) (it .start) (it .end) (code-known it (parts .0)) (parts .1) in
+      let keys = code-keys pool (it .code) (it .start) (it .end) (formed-parts it (parts .0) .known) (parts .1) in
       record { good = upright-whole pool n fits (queryItem it) (parts .2); start-in = keys .0; end-in = keys .1 }
 
   items-fine : (its : List ItemWords) → AllSound pool its → All (Fine pool n fits) (map rangeOf its)

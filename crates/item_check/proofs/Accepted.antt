@@ -1,7 +1,7 @@
 -- What the check of a list accepts: whole items, not too many, each of which is sound, in order. Assumes nothing.
-use Prim.Native.Nat.{ℕ, suc, _/_, _%_, _≤_}
+use Prim.Native.Nat.{ℕ, suc, _/_, _%_, _≤_, _<_}
 use mathlib.Core.Path.{_≡_, refl, sym}
-use mathlib.Core.Bool.{Bool, true, false, not, cond, _||_, true≢false}
+use mathlib.Core.Bool.{Bool, true, false, not, cond, _||_, _&&_, true≢false, false≢true}
 use mathlib.Core.List.{List, [], _∷_}
 use mathlib.Core.Logic.{_↔_}
 use native.Mathlib.Omega.{arith}
@@ -9,13 +9,14 @@ use lib.ListN.{length}
 use lib.Dec.{eqb, ltb}
 use borrow.Author.Tests.{ltb-false, le-ltb, eqb-true, eq-eqb, not-false}
 use Rattle.key_order.specs.Order.{isLess}
+use Rattle.query_item.specs.declared.KeyAt.{KeyAt}
 use Rattle.query_item.specs.declared.ItemWords.{ItemWords}
 use Rattle.query_item.specs.declared.RangeSetItem.{RangeSetItem}
 use Rattle.query_item.specs.Items.{itemSize}
 use Rattle.query_item.specs.Boundaries.{compareIn, rangeOf, upright}
 use Rattle.intervals.proofs.Laws.{All}
 use Rattle.item_check.proofs.Scans.{fault-passes}
-use Rattle.item_check.specs.Checks.{Answer, Verdict, answered, refused, accepted, andThen, wordsBy, mostItems, mostPool, malformed, outside, itemFault, uprightFault, faultAt}
+use Rattle.item_check.specs.Checks.{Answer, Verdict, answered, refused, accepted, andThen, wordsBy, mostItems, mostPool, malformed, outside, itemFault, uprightFault, faultAt, hasStart, hasEnd, written}
 use Rattle.item_check.specs.Checks.{poolVerdict, shapeVerdict, firstBad, firstBreak, strictVerdict, itemsOf, wholeVerdict, listVerdict}
 
 -- each item is sound: nothing of 1, 2, 3 is wrong with it
@@ -66,6 +67,16 @@ fault-parts pool it e = go (malformed it) (outside pool it) refl refl
     go false true p q = absurd (omega (arith, simp (p, q) at e))
     go false false p q = (p, q)
 
+-- 1 and 2 stand before the rest of what is asked of an item
+pub fault-early : (pool : List ℕ) (it : ItemWords) {f : ℕ} → f ≡ itemFault pool it → (f ≡ 0 → ⊥) → (rest : ℕ)
+    → f ≡ cond (malformed it) 1 (cond (outside pool it) 2 rest)
+fault-early pool it {f} is some rest = go (malformed it) (outside pool it) is
+  where
+    go : (m o : Bool) → f ≡ cond m 1 (cond o 2 0) → f ≡ cond m 1 (cond o 2 rest)
+    go true o e = e
+    go false true e = e
+    go false false e = absurd (some e)
+
 -- an item that nothing of 1, 2, 3 is wrong with
 pub sound-parts : (pool : List ℕ) (it : ItemWords) → uprightFault pool it ≡ 0
     → (malformed it ≡ false) × (outside pool it ≡ false) × (upright pool (rangeOf it) ≡ true)
@@ -83,13 +94,38 @@ tested : (t : Bool) (v : Verdict) (n s i : ℕ) → cond t v (refused n s i) ≡
 tested true v n s i = (λ e. (refl, e), λ e. e .1)
 tested false v n s i = (λ e. (cc, cc), λ e. absurd (true≢false (sym (e .0))))
 
-refuses : (t : Bool) (n s i : ℕ) → cond t (refused n s i) accepted ≡ accepted ↔ t ≡ false
+pub refuses : (t : Bool) (n s i : ℕ) → cond t (refused n s i) accepted ≡ accepted ↔ t ≡ false
 refuses true n s i = (λ e. cc, λ e. cc)
 refuses false n s i = (λ e. refl, λ e. refl)
 
 pub or-false : (p q : Bool) → p || q ≡ false ↔ ((p ≡ false) × (q ≡ false))
 or-false true q = (λ e. absurd (true≢false e), λ e. e .0)
 or-false false q = (λ e. (refl, e), λ e. e .1)
+
+-- ---- what an item has that is not malformed: a known code, and no bytes for a key that it does not have
+
+pub record Formed (it : ItemWords) : Type 0 where
+  pub known : it .code ≤ 9
+  pub no-start : hasStart (it .code) ≡ false → it .start .length ≡ 0
+  pub no-end : hasEnd (it .code) ≡ false → it .end .length ≡ 0
+
+absent-empty : (p : Bool) (k : KeyAt) → not p && written k ≡ false → p ≡ false → k .length ≡ 0
+absent-empty true k h e = absurd (false≢true (sym e))
+absent-empty false k h e =
+    eqb-true (k .length) 0 (not-false (eqb (k .length) 0) (or-false (not (eqb (k .offset) 0)) (not (eqb (k .length) 0)) .0 h .1))
+
+pub formed-parts : (it : ItemWords) → malformed it ≡ false → Formed it
+formed-parts it h =
+    let codes = ltb 9 (it .code) || ltb 3 (it .wrapper) in
+    let start = not (hasStart (it .code)) && written (it .start) in
+    let last = or-false (codes || start) (not (hasEnd (it .code)) && written (it .end)) .0 h in
+    let third = or-false codes start .0 (last .0) in
+    let first = or-false (ltb 9 (it .code)) (ltb 3 (it .wrapper)) .0 (third .0) in
+    record {
+      known = ltb-false 9 (it .code) (first .0);
+      no-start = absent-empty (hasStart (it .code)) (it .start) (third .1);
+      no-end = absent-empty (hasEnd (it .code)) (it .end) (last .1);
+    }
 
 -- ---- a list
 

@@ -3,9 +3,9 @@
 -- a check's numbers tell its cases apart
 pub use Rattle.item_check.proofs.Apart.{refused-apart, verdict-apart}
 -- what the check of a list accepts
-pub use Rattle.item_check.proofs.Accepted.{AllSound, Following, InOrder, AcceptedList, accepts, or-false, items-pass, shape-passes, accepted-list, pool-passes}
+pub use Rattle.item_check.proofs.Accepted.{AllSound, Following, InOrder, AcceptedList, accepts, refuses, or-false, items-pass, shape-passes, accepted-list, pool-passes}
 -- what a call that answers has passed, what a call leaves in words lent to it, and what of an item
-pub use Rattle.item_check.proofs.Accepted.{answers, words-refused, words-answered, fault-parts, sound-parts}
+pub use Rattle.item_check.proofs.Accepted.{answers, words-refused, words-answered, fault-parts, fault-early, sound-parts, Formed, formed-parts}
 -- a list at an index
 pub use Rattle.item_check.proofs.Scans.{items-end, items-more, items-all, fault-passes, fault-refused, bad-end, bad-here, bad-next}
 -- its items stand one above another, and at most one of them holds a key

@@ -88,6 +88,10 @@ keyOut pool k = ltb mostKey (k .length) || ltb (length pool) (k .offset + k .len
 abbrev pub outside : List ℕ → ItemWords → Bool
 outside pool it = (hasStart (it .code) && keyOut pool (it .start)) || (hasEnd (it .code) && keyOut pool (it .end))
 
+-- 01 no.5, 02 §1.12: an item that has a wrapper, where a call takes none: a position query, a sheet
+abbrev pub wrapped : ItemWords → Bool
+wrapped it = not (eqb (it .wrapper) 0)
+
 -- 01 no.3, refusal.6: the number of what is wrong with an item, 0 where nothing is: 1 before 2, and 3 where the item has to be upright
 abbrev pub itemFault : List ℕ → ItemWords → ℕ
 itemFault pool it = cond (malformed it) 1 (cond (outside pool it) 2 0)

@@ -180,13 +180,15 @@ pub fn is_upright(pool: &[u8], set: RangeSet) -> bool
     is_at_most(compare_in(pool, start, end))
 }
 
-fn has_start(code: u32) -> bool
+// inner: whether an item of a code has a start key.
+pub fn has_start(code: u32) -> bool
     ensures { λ r. ⌜ r ≡ hasStart code ⌝ }
 {
     !((code == 3) | (code == 5) | (code == 6))
 }
 
-fn has_end(code: u32) -> bool
+// inner: whether it has an end key.
+pub fn has_end(code: u32) -> bool
     ensures { λ r. ⌜ r ≡ hasEnd code ⌝ }
 {
     !((code == 0) | (code == 3) | (code == 4) | (code == 7))

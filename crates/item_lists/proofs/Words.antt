@@ -4,11 +4,12 @@ use mathlib.Core.Path.{_≡_, refl, sym, ap, _∙_}
 use mathlib.Core.List.{List, [], _∷_, _++_}
 use native.Mathlib.Omega.{arith}
 use native.Mathlib.Numerals.{add-one}
-use lib.ListN.{length, getD, take, drop, length-append}
+use lib.ListN.{length, getD, take, drop, length-append, take-append-drop}
 use lib.Seq.{take-all, length-take-le, drop-cons, sets-eq, take-at, drop-at, getD-drop, drop-drop}
 use borrow.Author.Tests.{lt-ltb}
 use Rattle.query_item.specs.declared.ItemWords.{ItemWords}
 use Rattle.query_item.specs.Items.{itemSize, itemAt, itemsFrom, flat, flatAll, withItem}
+use Rattle.item_check.specs.Checks.{itemsOf}
 use Rattle.item_lists.proofs.Read.{items-read}
 use Rattle.item_lists.proofs.Written.{length-flat}
 
@@ -128,3 +129,11 @@ front-items ws spare h =
     let n = length ws / itemSize in
     let all : flatAll (itemsFrom ws 0 n) ≡ ws = flat-front ws n (omega arith) ∙ take-all (itemSize * n) ws (omega arith) in
     rw (length-items ws 0 n, all) at (items-read (itemsFrom ws 0 n) [] spare 0 refl)
+
+-- the first k items of a list are those of its first words
+pub items-taken : (ws : List ℕ) (k : ℕ) → itemSize * k ≤ length ws → itemsOf (take (itemSize * k) ws) ≡ itemsFrom ws 0 k
+items-taken ws k h =
+    let front = take (itemSize * k) ws in
+    let long : length front ≡ itemSize * k = length-take-le (itemSize * k) ws h in
+    let count : length front / itemSize ≡ k = omega arith in
+    rw count (sym (rw (take-append-drop (itemSize * k) ws, count) at (front-items front (drop (itemSize * k) ws) (omega arith))))

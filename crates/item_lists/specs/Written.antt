@@ -11,7 +11,7 @@ use Rattle.query_item.specs.declared.QueryItem.{QueryItem}
 use Rattle.query_item.specs.declared.MaybeItem.{MaybeItem}
 use Rattle.query_item.specs.declared.MaybeItem.the-variants.{NoItem, Item}
 use Rattle.query_item.specs.Items.{itemSize, wordsOf, flatAll, withItem}
-use Rattle.item_check.specs.Checks.{Answer, answered, refused}
+use Rattle.item_check.specs.Checks.{Answer, wordsBy}
 
 -- 01 change.2: an item that may be missing, as a list of at most one
 abbrev pub asItems : MaybeItem → List QueryItem
@@ -32,8 +32,7 @@ laidOver out its = flatAll its ++ drop (length (flatAll its)) out
 
 -- 01 demand.1: a lent list afterwards: items laid over it where the call answers; a refusal leaves it as it was
 abbrev pub written : {A : Type 0} → Answer A → List ItemWords → List ℕ → List ℕ
-written (answered a) its out = laidOver out its
-written (refused n s i) its out = out
+written r its out = wordsBy r out (laidOver out its)
 
 -- ---- a pass that writes as far as there is room. No promise of a public call cites this (01 refusal.5)
 

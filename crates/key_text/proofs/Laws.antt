@@ -11,7 +11,7 @@ use Rattle.query_item.specs.declared.KeyAt.{KeyAt}
 use Rattle.query_item.specs.Items.{bytesOf}
 use Rattle.lent_text.specs.Text.{stored}
 use Rattle.lent_text.proofs.Laws.{stored-append, stored-none, stored-next}
-use Rattle.key_text.specs.Text.{hexByte, hexText, keyText, spacedKey}
+use Rattle.key_text.specs.Text.{hexByte, hexText, keyText, markedKey, spacedKey}
 
 -- ---- how long it is
 
@@ -42,15 +42,15 @@ spaced-few pool k n h l =
 pub key-short : (pool : List ℕ) (k : KeyAt) (bs : List ℕ) → bs ≡ bytesOf pool k → k .length < 4294967296 → length bs < 4294967296
 key-short pool k bs is h = rw is (omega (arith, length-take (k .length) (drop (k .offset) pool)))
 
--- ---- a space and a key stored
+-- ---- a byte and a key stored
 
-pub spaced-stored : (w : Bool) (l m o : List ℕ) (at n : ℕ) (pool : List ℕ) (k : KeyAt) (bs : List ℕ) → bs ≡ bytesOf pool k
-    → m ≡ stored w l at (32 ∷ []) → n ≡ length (keyText bs) → o ≡ stored w m (at + 1) (keyText bs)
-    → (1 + n ≡ length (spacedKey pool k)) × (o ≡ stored w l at (spacedKey pool k))
-spaced-stored w l m o at n pool k bs is is-m is-n is-o =
-    let two = stored-next w l m o at 1 n (32 ∷ []) (keyText bs) is-m refl is-o is-n in
+pub marked-stored : (w : Bool) (l m o : List ℕ) (at n mark : ℕ) (pool : List ℕ) (k : KeyAt) (bs : List ℕ) → bs ≡ bytesOf pool k
+    → m ≡ stored w l at (mark ∷ []) → n ≡ length (keyText bs) → o ≡ stored w m (at + 1) (keyText bs)
+    → (1 + n ≡ length (markedKey mark pool k)) × (o ≡ stored w l at (markedKey mark pool k))
+marked-stored w l m o at n mark pool k bs is is-m is-n is-o =
+    let two = stored-next w l m o at 1 n (mark ∷ []) (keyText bs) is-m refl is-o is-n in
     let same : keyText bs ≡ keyText (bytesOf pool k) = ap keyText is in
-    (two .0 ∙ ap (λ (x : List ℕ). length (32 ∷ x)) same, two .1 ∙ ap (λ (x : List ℕ). stored w l at (32 ∷ x)) same)
+    (two .0 ∙ ap (λ (x : List ℕ). length (mark ∷ x)) same, two .1 ∙ ap (λ (x : List ℕ). stored w l at (mark ∷ x)) same)
 
 -- ---- a turn over a key's bytes: storing what is left gives what storing from this byte on gives
 

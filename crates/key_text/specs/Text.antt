@@ -23,6 +23,9 @@ unfoldable pub keyText : List ℕ → List ℕ
 keyText [] = 45 ∷ []
 keyText (b ∷ k) = hexText (b ∷ k)
 
--- 01 m7.3, the example: a space before each key
+-- 01 m7.3, the example, 02 §1.1: a byte before each key: a space in the listing, a comma in a sheet
+abbrev pub markedKey : ℕ → List ℕ → KeyAt → List ℕ
+markedKey mark pool k = mark ∷ keyText (bytesOf pool k)
+
 abbrev pub spacedKey : List ℕ → KeyAt → List ℕ
-spacedKey pool k = 32 ∷ keyText (bytesOf pool k)
+spacedKey pool k = markedKey 32 pool k

@@ -4,7 +4,7 @@ ghost use mathlib.Core.Path.{_≡_};
 ghost use Prim.Native.Nat.{_+_, _≤_, _<_};
 ghost use lib.ListN.{length};
 ghost use Rattle.lent_text.specs.Text.{stored};
-ghost use Rattle.key_text.specs.Text.{hexDigit, hexByte, hexText, keyText, spacedKey};
+ghost use Rattle.key_text.specs.Text.{hexDigit, hexByte, hexText, keyText, markedKey, spacedKey};
 use lent_text::put;
 use lent_text::put_past;
 use query_item::KeyAt;
@@ -14,7 +14,21 @@ use query_item::pooled::key_bytes;
 pub fn put_key(out: &mut [u8], at: usize, pool: &[u8], key: KeyAt, write: bool) -> usize
     ensures { λ r. ⌜ (r ≡ length (spacedKey (now (pool .entry)) key)) × (now (out .exit) ≡ stored write (now (out .entry)) at (spacedKey (now (pool .entry)) key)) × (r ≤ 8589934592) ⌝ }
 {
-    put(out, at, b' ', write);
+    put_key_behind(out, at, b' ', pool, key, write)
+}
+
+// inner: the same with any byte in the place of the space.
+pub fn put_key_behind(
+    out: &mut [u8],
+    at: usize,
+    mark: u8,
+    pool: &[u8],
+    key: KeyAt,
+    write: bool,
+) -> usize
+    ensures { λ r. ⌜ (r ≡ length (markedKey mark (now (pool .entry)) key)) × (now (out .exit) ≡ stored write (now (out .entry)) at (markedKey mark (now (pool .entry)) key)) × (r ≤ 8589934592) ⌝ }
+{
+    put(out, at, mark, write);
     1 + put_key_text(out, at, key_bytes(pool, key), write)
 }
 
@@ -34,6 +48,9 @@ fn put_hex(out: &mut [u8], at: usize, key: &[u8], write: bool) -> usize
     requires { ⌜ length (now key) < 4294967296 ⌝ }
     ensures { λ r. ⌜ (r ≡ length (hexText (now (key .entry)))) × (now (out .exit) ≡ stored write (now (out .entry)) (at + 1) (hexText (now (key .entry)))) × (r < 8589934592) ⌝ }
 {
+    if !write {
+        return 2 * key.len();
+    }
     let mut i: usize = 0;
     while i < key.len() {
         put_byte(out, at, 1 + 2 * i, key[i], write);

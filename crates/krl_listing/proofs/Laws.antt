@@ -30,17 +30,19 @@ use Rattle.lent_text.proofs.Laws.{decimal-few}
 use Rattle.key_text.specs.Text.{keyText, spacedKey}
 use Rattle.key_text.proofs.Laws.{length-hex, key-some, spaced-few}
 use Rattle.krl_line.specs.Lines.{lineFeed, oursWord, theirsWord}
+use Rattle.item_name.specs.Names.{
+  keyName,
+  rangeName,
+  rangeInclusiveName,
+  rangeFullName,
+  rangeFromName,
+  rangeToName,
+  rangeToInclusiveName,
+  rangeAfterName,
+  rangeAfterToName,
+  rangeAfterToInclusiveName,
+}
 use Rattle.krl_listing.specs.Listing.{
-  keyWord,
-  rangeWord,
-  rangeInclusiveWord,
-  rangeFullWord,
-  rangeFromWord,
-  rangeToWord,
-  rangeToInclusiveWord,
-  rangeAfterWord,
-  rangeAfterToWord,
-  rangeAfterToInclusiveWord,
   bareLine,
   keyLine,
   keysLine,
@@ -142,16 +144,16 @@ module _ (pool : List ℕ) where
     where
       go : (t₀ t₁ t₂ t₃ t₄ t₅ t₆ t₇ t₈ : Bool)
           → length (itemLine pool (cond t₀ (Key (it .start)) (cond t₁ (Range (it .start) (it .end)) (cond t₂ (RangeInclusive (it .start) (it .end)) (cond t₃ (RangeFrom (it .start)) (cond t₄ (RangeTo (it .end)) (cond t₅ (RangeToInclusive (it .end)) (cond t₆ (RangeAfter (it .start)) (cond t₇ (RangeAfterTo (it .start) (it .end)) (cond t₈ (RangeAfterToInclusive (it .start) (it .end)) RangeFull)))))))))) ≤ mostLine
-      go true t₁ t₂ t₃ t₄ t₅ t₆ t₇ t₈ = one-few keyWord (it .start) (omega arith) (k .start)
-      go false true t₂ t₃ t₄ t₅ t₆ t₇ t₈ = two-few rangeWord (it .start) (it .end) (omega arith) (k .start) (k .end)
-      go false false true t₃ t₄ t₅ t₆ t₇ t₈ = two-few rangeInclusiveWord (it .start) (it .end) (omega arith) (k .start) (k .end)
-      go false false false true t₄ t₅ t₆ t₇ t₈ = one-few rangeFromWord (it .start) (omega arith) (k .start)
-      go false false false false true t₅ t₆ t₇ t₈ = one-few rangeToWord (it .end) (omega arith) (k .end)
-      go false false false false false true t₆ t₇ t₈ = one-few rangeToInclusiveWord (it .end) (omega arith) (k .end)
-      go false false false false false false true t₇ t₈ = one-few rangeAfterWord (it .start) (omega arith) (k .start)
-      go false false false false false false false true t₈ = two-few rangeAfterToWord (it .start) (it .end) (omega arith) (k .start) (k .end)
-      go false false false false false false false false true = two-few rangeAfterToInclusiveWord (it .start) (it .end) (omega arith) (k .start) (k .end)
-      go false false false false false false false false false = bare-few rangeFullWord (omega arith)
+      go true t₁ t₂ t₃ t₄ t₅ t₆ t₇ t₈ = one-few keyName (it .start) (omega arith) (k .start)
+      go false true t₂ t₃ t₄ t₅ t₆ t₇ t₈ = two-few rangeName (it .start) (it .end) (omega arith) (k .start) (k .end)
+      go false false true t₃ t₄ t₅ t₆ t₇ t₈ = two-few rangeInclusiveName (it .start) (it .end) (omega arith) (k .start) (k .end)
+      go false false false true t₄ t₅ t₆ t₇ t₈ = one-few rangeFromName (it .start) (omega arith) (k .start)
+      go false false false false true t₅ t₆ t₇ t₈ = one-few rangeToName (it .end) (omega arith) (k .end)
+      go false false false false false true t₆ t₇ t₈ = one-few rangeToInclusiveName (it .end) (omega arith) (k .end)
+      go false false false false false false true t₇ t₈ = one-few rangeAfterName (it .start) (omega arith) (k .start)
+      go false false false false false false false true t₈ = two-few rangeAfterToName (it .start) (it .end) (omega arith) (k .start) (k .end)
+      go false false false false false false false false true = two-few rangeAfterToInclusiveName (it .start) (it .end) (omega arith) (k .start) (k .end)
+      go false false false false false false false false false = bare-few rangeFullName (omega arith)
 
   title-few : (title : List ℕ) (n : ℕ) → length title ≤ 21 → length (titleLine title n) ≤ mostLine
   title-few title n h =
@@ -182,7 +184,7 @@ unfolding itemLine
 line-longest pool a b h k =
     omega (
       arith,
-      length-append rangeAfterToInclusiveWord (spacedKey pool a ++ (spacedKey pool b ++ lineFeed)),
+      length-append rangeAfterToInclusiveName (spacedKey pool a ++ (spacedKey pool b ++ lineFeed)),
       length-append (spacedKey pool a) (spacedKey pool b ++ lineFeed),
       length-append (spacedKey pool b) lineFeed,
       full (bytesOf pool a) h,

@@ -21,49 +21,21 @@ use Rattle.query_item.specs.Items.{queryItem, itemsFrom}
 use Rattle.intersect_many.specs.declared.ManyCounts.{ManyCounts}
 use Rattle.lent_text.specs.Text.{spacedNumber}
 use Rattle.key_text.specs.Text.{spacedKey}
+use Rattle.item_name.specs.Names.{
+  keyName,
+  rangeName,
+  rangeInclusiveName,
+  rangeFullName,
+  rangeFromName,
+  rangeToName,
+  rangeToInclusiveName,
+  rangeAfterName,
+  rangeAfterToName,
+  rangeAfterToInclusiveName,
+}
 use Rattle.krl_line.specs.Lines.{lineFeed, oursWord, theirsWord}
 
 -- ---- items, by their names in the table of 01
-
--- 01 item.0: "Key"
-abbrev pub keyWord : List ℕ
-keyWord = 75 ∷ 101 ∷ 121 ∷ []
-
--- 01 item.1: "Range"
-abbrev pub rangeWord : List ℕ
-rangeWord = 82 ∷ 97 ∷ 110 ∷ 103 ∷ 101 ∷ []
-
--- 01 item.2: "RangeInclusive"
-abbrev pub rangeInclusiveWord : List ℕ
-rangeInclusiveWord = 82 ∷ 97 ∷ 110 ∷ 103 ∷ 101 ∷ 73 ∷ 110 ∷ 99 ∷ 108 ∷ 117 ∷ 115 ∷ 105 ∷ 118 ∷ 101 ∷ []
-
--- 01 item.3: "RangeFull"
-abbrev pub rangeFullWord : List ℕ
-rangeFullWord = 82 ∷ 97 ∷ 110 ∷ 103 ∷ 101 ∷ 70 ∷ 117 ∷ 108 ∷ 108 ∷ []
-
--- 01 item.4: "RangeFrom"
-abbrev pub rangeFromWord : List ℕ
-rangeFromWord = 82 ∷ 97 ∷ 110 ∷ 103 ∷ 101 ∷ 70 ∷ 114 ∷ 111 ∷ 109 ∷ []
-
--- 01 item.5: "RangeTo"
-abbrev pub rangeToWord : List ℕ
-rangeToWord = 82 ∷ 97 ∷ 110 ∷ 103 ∷ 101 ∷ 84 ∷ 111 ∷ []
-
--- 01 item.6: "RangeToInclusive"
-abbrev pub rangeToInclusiveWord : List ℕ
-rangeToInclusiveWord = 82 ∷ 97 ∷ 110 ∷ 103 ∷ 101 ∷ 84 ∷ 111 ∷ 73 ∷ 110 ∷ 99 ∷ 108 ∷ 117 ∷ 115 ∷ 105 ∷ 118 ∷ 101 ∷ []
-
--- 01 item.7: "RangeAfter"
-abbrev pub rangeAfterWord : List ℕ
-rangeAfterWord = 82 ∷ 97 ∷ 110 ∷ 103 ∷ 101 ∷ 65 ∷ 102 ∷ 116 ∷ 101 ∷ 114 ∷ []
-
--- 01 item.8: "RangeAfterTo"
-abbrev pub rangeAfterToWord : List ℕ
-rangeAfterToWord = 82 ∷ 97 ∷ 110 ∷ 103 ∷ 101 ∷ 65 ∷ 102 ∷ 116 ∷ 101 ∷ 114 ∷ 84 ∷ 111 ∷ []
-
--- 01 item.9: "RangeAfterToInclusive"
-abbrev pub rangeAfterToInclusiveWord : List ℕ
-rangeAfterToInclusiveWord = 82 ∷ 97 ∷ 110 ∷ 103 ∷ 101 ∷ 65 ∷ 102 ∷ 116 ∷ 101 ∷ 114 ∷ 84 ∷ 111 ∷ 73 ∷ 110 ∷ 99 ∷ 108 ∷ 117 ∷ 115 ∷ 105 ∷ 118 ∷ 101 ∷ []
 
 -- 01 m7.3, the example: an item is its name, and its keys behind it: none, one or two
 
@@ -78,16 +50,16 @@ keysLine pool name a b = name ++ (spacedKey pool a ++ (spacedKey pool b ++ lineF
 
 -- 01 keys.4: which keys each item has
 unfoldable pub itemLine : List ℕ → QueryItem → List ℕ
-itemLine pool (Key a) = keyLine pool keyWord a
-itemLine pool (Range a b) = keysLine pool rangeWord a b
-itemLine pool (RangeInclusive a b) = keysLine pool rangeInclusiveWord a b
-itemLine pool RangeFull = bareLine rangeFullWord
-itemLine pool (RangeFrom a) = keyLine pool rangeFromWord a
-itemLine pool (RangeTo b) = keyLine pool rangeToWord b
-itemLine pool (RangeToInclusive b) = keyLine pool rangeToInclusiveWord b
-itemLine pool (RangeAfter a) = keyLine pool rangeAfterWord a
-itemLine pool (RangeAfterTo a b) = keysLine pool rangeAfterToWord a b
-itemLine pool (RangeAfterToInclusive a b) = keysLine pool rangeAfterToInclusiveWord a b
+itemLine pool (Key a) = keyLine pool keyName a
+itemLine pool (Range a b) = keysLine pool rangeName a b
+itemLine pool (RangeInclusive a b) = keysLine pool rangeInclusiveName a b
+itemLine pool RangeFull = bareLine rangeFullName
+itemLine pool (RangeFrom a) = keyLine pool rangeFromName a
+itemLine pool (RangeTo b) = keyLine pool rangeToName b
+itemLine pool (RangeToInclusive b) = keyLine pool rangeToInclusiveName b
+itemLine pool (RangeAfter a) = keyLine pool rangeAfterName a
+itemLine pool (RangeAfterTo a b) = keysLine pool rangeAfterToName a b
+itemLine pool (RangeAfterToInclusive a b) = keysLine pool rangeAfterToInclusiveName a b
 
 -- ---- the listing (01 m7.3)
 

@@ -33,6 +33,9 @@ pub fn put_past(out: &mut [u8], at: usize, i: usize, byte: u8, write: bool)
 pub fn put_text(out: &mut [u8], at: usize, text: &[u8], write: bool) -> usize
     ensures { λ r. ⌜ (r ≡ length (now (text .entry))) × (now (out .exit) ≡ stored write (now (out .entry)) at (now (text .entry))) ⌝ }
 {
+    if !write {
+        return text.len();
+    }
     let mut i: usize = 0;
     while i < text.len() {
         put_past(out, at, i, text[i], write);

@@ -25,11 +25,12 @@ use Rattle.query_item.specs.declared.QueryItem.the-variants as item
 use Rattle.query_item.specs.Items.{bytesOf, same, atMost, holds, itemOf, queryItem}
 use Rattle.query_item.specs.Items as table
 use Rattle.query_item.specs.Boundaries.{toRangeSet, rangeOf}
-use Rattle.item_check.specs.Checks.{Answer, answered, refused, accepted, hasStart, hasEnd, malformed, outside, faultAt, firstBad}
-use Rattle.item_check.proofs.Laws.{accepts, fault-passes}
+use Rattle.item_check.specs.Checks.{Answer, answered, refused, accepted, hasStart, hasEnd, malformed, outside, wrapped, faultAt, firstBad}
+use Rattle.query_item.proofs.Laws.{each-code}
+use Rattle.item_check.proofs.Laws.{accepts, fault-passes, formed-parts}
 use Rattle.key_order.specs.Words.{be}
 use Rattle.position_key.specs.Keys.{keySize, positionKey, positionAnswer}
-use Rattle.position_query.specs.Covered.{holdsPosition, someHolds, covered, wrapped, noPosition, badKey, positionFault, anyBelow, rangesNeeded}
+use Rattle.position_query.specs.Covered.{holdsPosition, someHolds, covered, noPosition, badKey, positionFault, anyBelow, rangesNeeded}
 use Rattle.position_given.specs.Inner.{lastWord}
 use Rattle.position_query.specs.Ranges.{afterOf, firstOf, pastOf, bothOf, rangeAnswer, clipTo, clipped, ranges}
 use Rattle.key_order.proofs.Words.{Bytes, be-says}
@@ -162,20 +163,6 @@ refused-key k = go (eqb (length k) keySize)
     go true = refl
     go false = refl
 
--- one of the ten codes
-by-code : (P : ℕ → Type 0) → P 0 → P 1 → P 2 → P 3 → P 4 → P 5 → P 6 → P 7 → P 8 → P 9 → (c : ℕ) → c ≤ 9 → P c
-by-code P p0 p1 p2 p3 p4 p5 p6 p7 p8 p9 zero h = p0
-by-code P p0 p1 p2 p3 p4 p5 p6 p7 p8 p9 (suc zero) h = p1
-by-code P p0 p1 p2 p3 p4 p5 p6 p7 p8 p9 (suc (suc zero)) h = p2
-by-code P p0 p1 p2 p3 p4 p5 p6 p7 p8 p9 (suc (suc (suc zero))) h = p3
-by-code P p0 p1 p2 p3 p4 p5 p6 p7 p8 p9 (suc (suc (suc (suc zero)))) h = p4
-by-code P p0 p1 p2 p3 p4 p5 p6 p7 p8 p9 (suc (suc (suc (suc (suc zero))))) h = p5
-by-code P p0 p1 p2 p3 p4 p5 p6 p7 p8 p9 (suc (suc (suc (suc (suc (suc zero)))))) h = p6
-by-code P p0 p1 p2 p3 p4 p5 p6 p7 p8 p9 (suc (suc (suc (suc (suc (suc (suc zero))))))) h = p7
-by-code P p0 p1 p2 p3 p4 p5 p6 p7 p8 p9 (suc (suc (suc (suc (suc (suc (suc (suc zero)))))))) h = p8
-by-code P p0 p1 p2 p3 p4 p5 p6 p7 p8 p9 (suc (suc (suc (suc (suc (suc (suc (suc (suc zero))))))))) h = p9
-by-code P p0 p1 p2 p3 p4 p5 p6 p7 p8 p9 (suc (suc (suc (suc (suc (suc (suc (suc (suc (suc c)))))))))) h = absurd (omega arith)
-
 module _ (pool : List ℕ) (a b : KeyAt) where
   abbrev Bad : ℕ → Type 0
   Bad c = (hasStart c && noPosition pool a) || (hasEnd c && noPosition pool b) ≡ isRefused (rangeAnswer pool (toRangeSet (itemOf c a b)))
@@ -190,7 +177,7 @@ module _ (pool : List ℕ) (a b : KeyAt) where
       let y = positionAnswer (bytesOf pool b) in
       let A = refused-key (bytesOf pool a) in
       let B = refused-key (bytesOf pool b) in
-      by-code Bad
+      each-code Bad
       (sym (refused-both x (afterOf x) ∙ rw (refused-after x, A) (sym (or-self (noPosition pool a)))))
       (sym (refused-both x y ∙ rw (A, B)))
       (sym (refused-both x (afterOf y) ∙ rw (refused-after y, A, B)))
@@ -202,35 +189,11 @@ module _ (pool : List ℕ) (a b : KeyAt) where
       (sym (refused-both (afterOf x) y ∙ rw (refused-after x, A, B)))
       (sym (refused-both (afterOf x) (afterOf y) ∙ rw (refused-after x, refused-after y, A, B)))
 
-malformed-code : (it : ItemWords) → malformed it ≡ false → it .code ≤ 9
-malformed-code it h = ltb-false 9 (it .code) (go (ltb 9 (it .code)) _ _ _ h)
-  where
-    go : (t u v w : Bool) → t || u || v || w ≡ false → t ≡ false
-    go true u v w e = absurd (false≢true (sym e))
-    go false u v w e = refl
-
 -- a known item has a bad key exactly where its range is refused
 pub bad-range : (pool : List ℕ) (it : ItemWords) → malformed it ≡ false → badKey pool it ≡ isRefused (rangeAnswer pool (rangeOf it))
-bad-range pool it h = bad-code pool (it .start) (it .end) (it .code) (malformed-code it h)
+bad-range pool it h = bad-code pool (it .start) (it .end) (it .code) (formed-parts it h .known)
 
 -- ---- faults
-
-module _ (m o : Bool) (f : ℕ) (is : f ≡ cond m 1 (cond o 2 0)) where
-  pub fault-early : (rest : ℕ) → (f ≡ 0 → ⊥) → f ≡ cond m 1 (cond o 2 rest)
-  fault-early rest h = go m o is h
-    where
-      go : (m o : Bool) → f ≡ cond m 1 (cond o 2 0) → (f ≡ 0 → ⊥) → f ≡ cond m 1 (cond o 2 rest)
-      go true o e h = e
-      go false true e h = e
-      go false false e h = absurd (h e)
-
-  pub fault-clean : f ≡ 0 → (m ≡ false) × (o ≡ false)
-  fault-clean z = go m o (sym is ∙ z)
-    where
-      go : (m o : Bool) → _≡_ {A = ℕ} (cond m 1 (cond o 2 0)) 0 → (m ≡ false) × (o ≡ false)
-      go true o e = absurd (omega arith)
-      go false true e = absurd (omega arith)
-      go false false e = (refl, refl)
 
 -- of an item with no fault of its own and no wrapper, 7 or nothing
 pub fault-late : (pool : List ℕ) (it : ItemWords) (r : Bool) → malformed it ≡ false → outside pool it ≡ false → it .wrapper ≡ 0

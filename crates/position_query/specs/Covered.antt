@@ -10,7 +10,7 @@ use Rattle.intervals.specs.Intervals as interval
 use Rattle.query_item.specs.declared.KeyAt.{KeyAt}
 use Rattle.query_item.specs.declared.ItemWords.{ItemWords}
 use Rattle.query_item.specs.Items.{bytesOf, queryItem, holds}
-use Rattle.item_check.specs.Checks.{Answer, answered, refused, Verdict, accepted, andThen, hasStart, hasEnd, malformed, outside, poolVerdict, shapeVerdict, firstBad, itemsOf}
+use Rattle.item_check.specs.Checks.{Answer, answered, refused, Verdict, accepted, andThen, hasStart, hasEnd, malformed, outside, wrapped, poolVerdict, shapeVerdict, firstBad, itemsOf}
 use Rattle.pairs_sort.specs.Pairs.{pairs}
 use Rattle.position_given.specs.Positions.{rowsOf}
 use Rattle.position_key.specs.Keys.{keySize, positionKey}
@@ -30,10 +30,6 @@ unfoldable pub covered : List ℕ → List ItemWords → ℕ → ℕ → Bool
 covered pool its count p = ltb p count && someHolds pool its p
 
 -- ---- the checks of position items
-
--- 01 no.5: wrapper in a position query
-abbrev pub wrapped : ItemWords → Bool
-wrapped it = not (eqb (it .wrapper) 0)
 
 -- 01 no.7: position key not 8 bytes
 abbrev pub noPosition : List ℕ → KeyAt → Bool

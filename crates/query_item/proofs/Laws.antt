@@ -1,7 +1,7 @@
 -- Each law that a caller cites, in the order of specs/. It is stated in the file that the line names, and passed on. Assumes nothing.
 
 -- items read back from their words
-pub use Rattle.query_item.proofs.Words.{query-words, wrapper-words}
+pub use Rattle.query_item.proofs.Words.{query-words, wrapper-words, each-code}
 -- an item holds a key by the table exactly where the key lies between its boundaries, and what two boundaries make holds what lies between
 pub use Rattle.query_item.proofs.Held.{holds-between, Keeps, item-keeps, holds-converted}
 -- a start and an end make an item, and it shows what these tell; items that show the same have the same boundaries

@@ -1,5 +1,5 @@
 -- Items as words: what is written reads back; and words that are not whole, where what is past the list's end reads as 0. Assumes nothing.
-use Prim.Native.Nat.{ℕ, _+_, _*_, min}
+use Prim.Native.Nat.{ℕ, zero, suc, _+_, _*_, _≤_, min}
 use mathlib.Core.Path.{_≡_, refl, sym, ap, _∙_}
 use mathlib.Core.List.{List}
 use native.Mathlib.Decide.{decLe}
@@ -66,3 +66,18 @@ module _ (ws : List ℕ) (i f : ℕ) (e : f ≡ min i (length ws)) where
     clipped (itemSize * f + 4) (itemSize * i + 4) 4 (omega arith) (omega arith),
     clipped (itemSize * f + 5) (itemSize * i + 5) 5 (omega arith) (omega arith),
   )
+
+-- ---- one of the ten codes
+
+pub each-code : (P : ℕ → Type 0) → P 0 → P 1 → P 2 → P 3 → P 4 → P 5 → P 6 → P 7 → P 8 → P 9 → (c : ℕ) → c ≤ 9 → P c
+each-code P p0 p1 p2 p3 p4 p5 p6 p7 p8 p9 zero h = p0
+each-code P p0 p1 p2 p3 p4 p5 p6 p7 p8 p9 (suc zero) h = p1
+each-code P p0 p1 p2 p3 p4 p5 p6 p7 p8 p9 (suc (suc zero)) h = p2
+each-code P p0 p1 p2 p3 p4 p5 p6 p7 p8 p9 (suc (suc (suc zero))) h = p3
+each-code P p0 p1 p2 p3 p4 p5 p6 p7 p8 p9 (suc (suc (suc (suc zero)))) h = p4
+each-code P p0 p1 p2 p3 p4 p5 p6 p7 p8 p9 (suc (suc (suc (suc (suc zero))))) h = p5
+each-code P p0 p1 p2 p3 p4 p5 p6 p7 p8 p9 (suc (suc (suc (suc (suc (suc zero)))))) h = p6
+each-code P p0 p1 p2 p3 p4 p5 p6 p7 p8 p9 (suc (suc (suc (suc (suc (suc (suc zero))))))) h = p7
+each-code P p0 p1 p2 p3 p4 p5 p6 p7 p8 p9 (suc (suc (suc (suc (suc (suc (suc (suc zero)))))))) h = p8
+each-code P p0 p1 p2 p3 p4 p5 p6 p7 p8 p9 (suc (suc (suc (suc (suc (suc (suc (suc (suc zero))))))))) h = p9
+each-code P p0 p1 p2 p3 p4 p5 p6 p7 p8 p9 (suc (suc (suc (suc (suc (suc (suc (suc (suc (suc c)))))))))) h = absurd (omega arith)

@@ -6,7 +6,8 @@ use native.Mathlib.Omega.{arith}
 use lib.ListN.{length, drop}
 use denote.Ref.{now}
 use Rattle.lent_text.specs.Text.{stored}
-use Rattle.lent_text.proofs.Laws.{text-start, text-turn, text-done}
+use Rattle.lent_text.proofs.Laws.{stored-never, text-start, text-turn, text-done}
+use borrow.Author.Tests.{not-true}
 use borrow.Author.Needs.{needs}
 use Rattle.lent_text.proofs.put_text.Statement.{statement}
 use Rattle.lent_text.proofs.put_text.Tie as tie
@@ -21,20 +22,24 @@ abbrev μ-loop : tie.MeasureT-loop
 loop-holds : tie.Need-loop-holds Inv-loop μ-loop
 loop-holds c = (omega arith, refl, text-start _ _ _ _)
 
+-- only counted: nothing is stored
+returns : tie.Need-returns Inv-loop μ-loop
+returns c = (refl, rw (not-true (c .before .before .before .args .write) (c .if1 .taken)) (sym (stored-never _ _ _)))
+
 loop-again : tie.Need-loop-again Inv-loop μ-loop
 loop-again c =
     let l = c .before .before .before .before .before .before .loop in
-    let a = c .before .before .before .before .before .before .before .before .before .args in
+    let a = c .before .before .before .before .before .before .before .before .before .before .args in
     let p = c .before .before .put-past in
     (omega arith, p .kept .0 ∙ l .inv .1, text-turn (a .write) (l .out) (p .last .0) (now (a .text)) (a .at) (l .i) (c .before .before .before .before .before .loop-test .taken) (p .ensures) ∙ l .inv .2)
 
 same-length : tie.Need-same-length Inv-loop μ-loop
 same-length c = c .before .loop .inv .1
 
-returns : tie.Need-returns Inv-loop μ-loop
-returns c =
+returns-2 : tie.Need-returns-2 Inv-loop μ-loop
+returns-2 c =
     let l = c .before .loop in
-    let a = c .before .before .before .before .args in
+    let a = c .before .before .before .before .before .args in
     (refl, sym (text-done (a .write) (l .out) (now (a .text)) (a .at + l .i) (l .i) (c .loop-test .left)) ∙ l .inv .2)
 
 pub put-text-spec : {M : Type 1} → statement M
@@ -43,6 +48,7 @@ put-text-spec =
     (tie.spec
     Inv-loop
     μ-loop
+    returns
     loop-holds
     (λ c. search needs)
     (λ c κs. search needs)
@@ -50,4 +56,4 @@ put-text-spec =
     (λ c. search needs)
     loop-again
     same-length
-    returns)
+    returns-2)

@@ -1,10 +1,10 @@
--- `put_key` meets its contract. Assumes nothing.
+-- `key_text::put_key_behind` meets its contract. Assumes nothing.
 use native.Mathlib.Omega.{arith}
 use denote.Ref.{now}
-use Rattle.key_text.proofs.Laws.{key-short, spaced-stored}
+use Rattle.key_text.proofs.Laws.{key-short, marked-stored}
 use borrow.Author.Needs.{needs}
-use Rattle.key_text.proofs.put_key.Statement.{statement}
-use Rattle.key_text.proofs.put_key.Tie as tie
+use Rattle.key_text.proofs.put_key_behind.Statement.{statement}
+use Rattle.key_text.proofs.put_key_behind.Tie as tie
 
 put-key-text-requires : tie.Need-put-key-text-requires
 put-key-text-requires c κs =
@@ -16,11 +16,11 @@ returns c =
     let a = c .before .before .before .before .before .before .before .before .before .before .before .args in
     let p = c .before .before .before .before .before .before .before .put in
     let t = c .before .before .put-key-text in
-    let both = spaced-stored (a .write) (now (a .out)) (p .last .0) (t .last .0) (a .at) (t .result) (now (a .pool)) (a .key) _ (c .before .before .before .key-bytes .ensures) (p .ensures) (t .ensures .0) (t .ensures .1) in
+    let both = marked-stored (a .write) (now (a .out)) (p .last .0) (t .last .0) (a .at) (t .result) (a .mark) (now (a .pool)) (a .key) _ (c .before .before .before .key-bytes .ensures) (p .ensures) (t .ensures .0) (t .ensures .1) in
     (both .0, both .1, omega (arith, t .ensures .2))
 
-pub put-key-spec : {M : Type 1} → statement M
-put-key-spec =
+pub put-key-behind-spec : {M : Type 1} → statement M
+put-key-behind-spec =
     tie.close
     (tie.spec
     (λ c κs. search needs)

@@ -1,0 +1,13 @@
+pub mod Laws
+pub mod Places
+pub mod Quotes
+pub mod Packed
+pub mod Measures
+pub mod Digits
+pub mod Turns
+pub mod Filling
+pub mod Answers
+pub mod Room
+pub mod Read
+pub mod Behind
+pub mod Again
