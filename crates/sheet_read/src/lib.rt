@@ -1,8 +1,8 @@
 // Section 1 of document 02: a lane sheet read into a lent pool and a lent list of items.
 // Definitions: specs/Reading.antt; specs/Passes.antt has what the passes go by. Laws: proofs/Laws.antt.
 //
-// A first pass reads row by row, up to the first bad one, counts, and writes nothing lent. If nothing is refused, a second one writes keys and items; it does not ask again
-// whether a row is good.
+// A first pass reads row by row, up to the first bad one, counts, and writes nothing lent. If nothing is refused, a second one writes keys and
+// items; it does not ask again whether a row is good.
 ghost use mathlib.Core.Path.{_≡_};
 ghost use mathlib.Core.Bool.{true, false, cond};
 ghost use mathlib.Core.List.{_++_};
