@@ -76,6 +76,7 @@ fn measure(sizes: &[usize]) -> Measured {
             .max()
             .map_or(vec![], |items| lists::beside_earlier(*items)),
         key_comparison: others::key_comparison(),
+        keys_earlier: others::keys_beside_earlier(),
         insertion: others::insertion(),
         building: others::building(),
         mismatches: others::mismatches(),

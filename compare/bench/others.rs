@@ -2,6 +2,7 @@
 
 use crate::timing::{calls, least, prepared};
 use compare::{
+    earlier::{Compare, COMPARES},
     fernsponge::{self, Report},
     inputs::alike_keys,
     items::read,
@@ -21,9 +22,9 @@ pub struct Line {
     pub reference: Option<f64>,
 }
 
-/// Two keys of one length, by the place of the byte in which they differ. The reference is the standard library's order of slices.
-pub fn key_comparison() -> Vec<Line> {
-    let mut lines = vec![];
+/// Two keys of one length, which differ in one byte or in none, and what that is called.
+fn two_keys() -> Vec<(String, Vec<u8>, Vec<u8>)> {
+    let mut keys = vec![];
     for length in [8, 32, 200, 255] {
         for (place, at) in [
             ("first", Some(0)),
@@ -36,24 +37,60 @@ pub fn key_comparison() -> Vec<Line> {
             if let Some(at) = at {
                 b[at] = 0x80;
             }
-            let order = a.cmp(&b) as i8 + 1;
-            assert_eq!(fernsponge::compare(&a, &b), order as u64);
-            assert_eq!(QueryItem::compare(&a, &b) as i8 + 1, order);
-            let (a, b) = (&a[..], &b[..]);
-            let [ours, rust, reference] = least([
-                calls(move || fernsponge::compare(black_box(a), black_box(b))),
-                calls(move || QueryItem::compare(black_box(a), black_box(b))),
-                calls(move || black_box(a).cmp(black_box(b))),
-            ]);
-            lines.push(Line {
-                what: format!("{length} bytes, {place} byte differs"),
-                ours: Some(ours),
-                rust,
-                reference: Some(reference),
-            });
+            keys.push((format!("{length} bytes, {place} byte differs"), a, b));
         }
     }
+    keys
+}
+
+/// Two keys, by their length and the place of the byte in which they differ (02 §3.3). The reference is the standard library's order of slices.
+pub fn key_comparison() -> Vec<Line> {
+    let mut lines = vec![];
+    for (what, a, b) in two_keys() {
+        let order = a.cmp(&b) as i8 + 1;
+        assert_eq!(fernsponge::compare(&a, &b), order as u64);
+        assert_eq!(QueryItem::compare(&a, &b) as i8 + 1, order);
+        let (a, b) = (&a[..], &b[..]);
+        let [ours, rust, reference] = least([
+            calls(move || fernsponge::compare(black_box(a), black_box(b))),
+            calls(move || QueryItem::compare(black_box(a), black_box(b))),
+            calls(move || black_box(a).cmp(black_box(b))),
+        ]);
+        lines.push(Line {
+            what,
+            ours: Some(ours),
+            rust,
+            reference: Some(reference),
+        });
+    }
     lines
+}
+
+/// The least times of one comparison, ours and an earlier library's, in nanoseconds.
+pub struct Compared {
+    pub what: String,
+    pub ours: f64,
+    pub earlier: f64,
+}
+
+/// The same keys beside an earlier library, where there is one.
+pub fn keys_beside_earlier() -> Vec<Compared> {
+    let Some(both) = COMPARES else {
+        return vec![];
+    };
+    let timed = |(what, a, b): (String, Vec<u8>, Vec<u8>)| {
+        let (a, b) = (&a[..], &b[..]);
+        let side = |call: Compare| calls(move || call(black_box(a), black_box(b)));
+        let [ours, earlier] = both.map(|call| call(a, b));
+        assert_eq!(ours, earlier, "{what}");
+        let [ours, earlier] = least(both.map(side));
+        Compared {
+            what,
+            ours,
+            earlier,
+        }
+    };
+    two_keys().into_iter().map(timed).collect()
 }
 
 /// A key into 2,047 keys, none of which it meets.

@@ -1,15 +1,22 @@
-//! The call on two lists of two libraries: ours, and one that was kept from before a change. Both are there only where `make bench EARLIER=..`
-//! has named that one; then they are linked under these names (tools/earlier).
+//! The calls on two lists and on two keys of two libraries: ours, and one that was kept from before a change. Both are there only where
+//! `make bench EARLIER=..` has named that one; then they are linked under these names (tools/earlier).
 
 /// A call that takes what `fernsponge::intersect_many` takes.
 pub type Call = fn(&[u8], &[u32], &[u32], [&mut [u32]; 3], &mut [u64; 3]) -> u64;
 
+/// A call that takes what `fernsponge::compare` takes.
+pub type Compare = fn(&[u8], &[u8]) -> u64;
+
 /// Ours, and the earlier one.
 #[cfg(not(earlier))]
 pub const CALLS: Option<[Call; 2]> = None;
+#[cfg(not(earlier))]
+pub const COMPARES: Option<[Compare; 2]> = None;
 
 #[cfg(earlier)]
 pub const CALLS: Option<[Call; 2]> = Some([ours, earlier]);
+#[cfg(earlier)]
+pub const COMPARES: Option<[Compare; 2]> = Some([our_compare, their_compare]);
 
 #[cfg(earlier)]
 macro_rules! call {
@@ -64,3 +71,21 @@ macro_rules! call {
 call!(ours, ours_intersect_many);
 #[cfg(earlier)]
 call!(earlier, earlier_intersect_many);
+
+#[cfg(earlier)]
+macro_rules! compare {
+    ($name:ident, $symbol:ident) => {
+        fn $name(a: &[u8], b: &[u8]) -> u64 {
+            extern "C" {
+                fn $symbol(a: *const u8, a_length: usize, b: *const u8, b_length: usize) -> u64;
+            }
+            // SAFETY: the header's function, with the addresses and lengths of slices
+            unsafe { $symbol(a.as_ptr(), a.len(), b.as_ptr(), b.len()) }
+        }
+    };
+}
+
+#[cfg(earlier)]
+compare!(our_compare, ours_compare);
+#[cfg(earlier)]
+compare!(their_compare, earlier_compare);

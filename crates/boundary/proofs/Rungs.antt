@@ -1,6 +1,6 @@
 -- The order of boundaries by their keys and the rungs of their kinds. Assumes nothing.
-use Prim.Native.Nat.{ℕ}
-use mathlib.Core.Path.{_≡_, refl}
+use Prim.Native.Nat.{ℕ, zero, suc}
+use mathlib.Core.Path.{_≡_, refl, sym, ap, _∙_}
 use mathlib.Core.List.{List}
 use mathlib.Core.Bool.{true, false, _&&_, cond}
 use Rattle.key_order.specs.declared.Ordering.the-variants.{Equal}
@@ -48,3 +48,22 @@ module _ (k l : BoundaryKind) (a b : List ℕ) {x y : ℕ} (p : x ≡ rung k) (q
 
   pub by-kinds : bounded x && bounded y ≡ false → compareNumbers x y ≡ compareBoundaries (boundary k a) (boundary l b)
   by-kinds h = rw (compare-by-rungs k l a b, ← p, ← q, h)
+
+-- a kind by its rung
+abbrev kindAt : ℕ → BoundaryKind
+kindAt zero = UnboundedStart
+kindAt (suc zero) = ExclusiveEnd
+kindAt (suc (suc zero)) = Inclusive
+kindAt (suc (suc (suc zero))) = ExclusiveStart
+kindAt (suc (suc (suc (suc n)))) = UnboundedEnd
+
+kind-at : (k : BoundaryKind) → kindAt (rung k) ≡ k
+kind-at UnboundedStart = refl
+kind-at UnboundedEnd = refl
+kind-at Inclusive = refl
+kind-at ExclusiveStart = refl
+kind-at ExclusiveEnd = refl
+
+-- kinds of one rung are the same
+pub rung-apart : (k l : BoundaryKind) → rung k ≡ rung l → k ≡ l
+rung-apart k l e = sym (kind-at k) ∙ ap kindAt e ∙ kind-at l

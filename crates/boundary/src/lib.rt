@@ -11,13 +11,14 @@ ghost use Rattle.boundary.specs.Rungs.{rung, bounded};
 use key_order::Ordering;
 use key_order::compare_numbers;
 
-// What a boundary is, where its key is lent as bytes beside it. An unbounded one does without a key.
+// What a boundary is, where its key is lent as bytes beside it, in the order of boundaries at one key: so that its rung is the number that stands
+// for it already. An unbounded one does without a key.
 pub enum BoundaryKind {
     UnboundedStart,
-    UnboundedEnd,
+    ExclusiveEnd,
     Inclusive,
     ExclusiveStart,
-    ExclusiveEnd,
+    UnboundedEnd,
 }
 
 // How a boundary of the kind left at the key a stands to one of the kind right at the key b (01 m2.1, keys.7, keys.8).
@@ -51,8 +52,8 @@ pub fn invert(kind: BoundaryKind, is_start: bool) -> BoundaryKind
     }
 }
 
-// Where a kind stands among boundaries of one key, the unbounded ones at the ends.
-fn rung_of(kind: BoundaryKind) -> u64
+// inner: where a kind stands among boundaries of one key, the unbounded ones at the ends.
+pub fn rung_of(kind: BoundaryKind) -> u64
     ensures { λ r. ⌜ r ≡ rung kind ⌝ }
 {
     match kind {
@@ -64,7 +65,8 @@ fn rung_of(kind: BoundaryKind) -> u64
     }
 }
 
-fn is_bounded(x: u64) -> bool
+// inner: whether a rung is that of a kind with a key.
+pub fn is_bounded(x: u64) -> bool
     ensures { λ r. ⌜ r ≡ bounded x ⌝ }
 {
     (0 < x) & (x < 4)

@@ -1,32 +1,26 @@
 -- A number of the C interface stands for one answer alone, and what is written is read back. Assumes nothing.
 use Prim.Native.Nat.{ℕ, zero, suc, _≤_, _<_}
-use mathlib.Core.Path.{_≡_, refl}
+use mathlib.Core.Path.{_≡_, refl, sym, ap, _∙_}
 use mathlib.Core.Bool.{true, false, _&&_}
 use native.Mathlib.Omega.{arith}
 use borrow.Author.Tests.{leb-true}
 use Rattle.key_order.specs.declared.Ordering.{Ordering}
-use Rattle.key_order.specs.declared.Ordering.the-variants.{Less, Equal, Greater}
 use Rattle.query_item.specs.declared.RangeSetItem.{RangeSetItem}
 use Rattle.query_item.specs.declared.RangeSetItem.the-variants.{UnboundedStart, UnboundedEnd, Inclusive, ExclusiveStart, ExclusiveEnd}
 use Rattle.query_item.specs.declared.RangeSet.{RangeSet}
 use Rattle.query_item.specs.Boundaries.{kindOf, keyOf, withKey}
+use Rattle.query_item.proofs.Laws.{with-own-key}
 use Rattle.range_borrowed.specs.Kinds.{kindNumber, kindNumbered}
 use Rattle.item_check.specs.Checks.{accepted, written}
 -- the kind of a kind's number is that kind
 pub use Rattle.range_borrowed.proofs.Laws.{kind-of-number}
-use Rattle.fernsponge.specs.Answers.{orderNumber, isKind, isUnbounded, setWords, setOfWords, mostIndex, refusalNumber}
+use Rattle.key_order.specs.Order.{orderNumber, numberOrder}
+use Rattle.key_order.proofs.Numbers.{order-number}
+use Rattle.fernsponge.specs.Answers.{isKind, isUnbounded, setWords, setOfWords, mostIndex, refusalNumber}
 use Rattle.fernsponge.specs.Calls.{setWordsVerdict}
 
 pub order-number-apart : (o p : Ordering) → orderNumber o ≡ orderNumber p → o ≡ p
-order-number-apart Less Less e = refl
-order-number-apart Less Equal e = absurd (omega arith)
-order-number-apart Less Greater e = absurd (omega arith)
-order-number-apart Equal Less e = absurd (omega arith)
-order-number-apart Equal Equal e = refl
-order-number-apart Equal Greater e = absurd (omega arith)
-order-number-apart Greater Less e = absurd (omega arith)
-order-number-apart Greater Equal e = absurd (omega arith)
-order-number-apart Greater Greater e = refl
+order-number-apart o p e = sym (order-number o) ∙ ap numberOrder e ∙ order-number p
 
 -- the number of a number's kind is that number
 pub number-of-kind : (n : ℕ) → isKind n ≡ true → kindNumber (kindNumbered n) ≡ n
@@ -37,17 +31,13 @@ number-of-kind (suc (suc (suc zero))) e = refl
 number-of-kind (suc (suc (suc (suc zero)))) e = refl
 number-of-kind (suc (suc (suc (suc (suc n))))) e = absurd (omega (arith, leb-true (suc (suc (suc (suc (suc n))))) 4 e))
 
-with-own-key : (x : RangeSetItem) → withKey (kindNumbered (kindNumber (kindOf x))) (keyOf x) ≡ x
-with-own-key UnboundedStart = refl
-with-own-key UnboundedEnd = refl
-with-own-key (Inclusive k) = refl
-with-own-key (ExclusiveStart k) = refl
-with-own-key (ExclusiveEnd k) = refl
+with-own-number : (x : RangeSetItem) → withKey (kindNumbered (kindNumber (kindOf x))) (keyOf x) ≡ x
+with-own-number x = rw (kind-of-number (kindOf x)) (with-own-key x)
 
 -- two boundaries are read from their words as they are
 pub set-of-own-words : (s : RangeSet) → setOfWords (setWords s) ≡ s
 unfolding setOfWords setWords
-set-of-own-words s = rw (with-own-key (s .start), with-own-key (s .end))
+set-of-own-words s = rw (with-own-number (s .start), with-own-number (s .end))
 
 kind-own : (x : RangeSetItem) → isKind (kindNumber (kindOf x)) ≡ true
 kind-own UnboundedStart = refl

@@ -3,8 +3,6 @@ use Prim.Native.Nat.{ℕ, _+_, _*_, min}
 use mathlib.Core.List.{List, [], _∷_}
 use mathlib.Core.Bool.{Bool, cond}
 use lib.Dec.{leb}
-use Rattle.key_order.specs.declared.Ordering.{Ordering}
-use Rattle.key_order.specs.declared.Ordering.the-variants.{Less, Equal, Greater}
 use Rattle.query_item.specs.declared.ItemWords.{ItemWords}
 use Rattle.query_item.specs.declared.RangeSet.{RangeSet}
 use Rattle.query_item.specs.declared.MaybeItem.{MaybeItem}
@@ -15,13 +13,7 @@ use Rattle.range_borrowed.specs.declared.KeyContainmentResult.{KeyContainmentRe
 use Rattle.range_borrowed.specs.Kinds.{kindNumber, kindNumbered}
 use Rattle.item_check.specs.Checks.{Answer, answered, refused}
 
--- ---- numbers (01 form.11)
-
--- how one key or boundary stands to another
-abbrev pub orderNumber : Ordering → ℕ
-orderNumber Less = 0
-orderNumber Equal = 1
-orderNumber Greater = 2
+-- ---- numbers (01 form.11); that of an order is `orderNumber` of `key_order`
 
 -- yes is 1, no is 0
 abbrev pub boolNumber : Bool → ℕ

@@ -20,16 +20,14 @@ pub mod sheets;
 pub mod stored;
 
 ghost use mathlib.Core.Path.{_≡_};
-ghost use Rattle.key_order.specs.Order.{compareKeys, smaller};
-ghost use Rattle.fernsponge.specs.Answers.{orderNumber};
-use crate::numbers::order_number;
+ghost use Rattle.key_order.specs.Order.{compareKeys, orderNumber, smaller};
 
 // How a stands to b: 0 less, 1 equal, 2 greater (01 m1.1).
 #[no_mangle]
 pub extern "C" fn fernsponge_compare(a: &[u8], b: &[u8]) -> u64
     ensures { λ r. ⌜ r ≡ orderNumber (compareKeys (now (a .entry)) (now (b .entry))) ⌝ }
 {
-    order_number(key_order::compare(a, b)) as u64
+    key_order::stand(a, b)
 }
 
 // Writes the smaller of a and b into part, and b on a tie: the lent bytes themselves. An exported function can't return them (01 m1.3).

@@ -2,7 +2,8 @@
 ghost use mathlib.Core.Path.{_≡_};
 ghost use mathlib.Core.List.{_∷_};
 ghost use Rattle.query_item.specs.Items.{flat};
-ghost use Rattle.fernsponge.specs.Answers.{orderNumber, boolNumber, isKind, isUnbounded, refusalNumber, setNumbers, setOfWords, maybeNumbers, containmentNumbers};
+ghost use Rattle.key_order.specs.Order.{orderNumber};
+ghost use Rattle.fernsponge.specs.Answers.{boolNumber, isKind, isUnbounded, refusalNumber, setNumbers, setOfWords, maybeNumbers, containmentNumbers};
 ghost use Rattle.fernsponge.specs.Calls.{malformedSet};
 use item_check::Refusal;
 use item_check::is_written;

@@ -1,5 +1,6 @@
 pub mod Reading
 pub mod Cleared
+pub mod Raised
 pub mod Moves
 pub mod Windows
 pub mod Tails

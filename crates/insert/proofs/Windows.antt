@@ -212,7 +212,7 @@ module _ (pool : List ℕ) (new : ItemWords) where
         go (inl s) r = rw s (f i (omega arith) (omega arith))
         go (inr k) r = r k
 
-    stay-whole : (i n : ℕ) → Stay pool ws new i (i + n) → staying pool new (itemsFrom ws i n) ≡ itemsFrom ws i n
+    pub stay-whole : (i n : ℕ) → Stay pool ws new i (i + n) → staying pool new (itemsFrom ws i n) ≡ itemsFrom ws i n
     stay-whole i n f = staying-all pool new (itemsFrom ws i n) (stay-among i n f)
 
     stay-alone : (cur : ItemWords) (i n : ℕ) → Stay pool ws new i (i + n) → mergedWith pool new cur (itemsFrom ws i n) ≡ cur

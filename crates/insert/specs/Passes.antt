@@ -1,10 +1,11 @@
 -- What the passes over a list go by, an item at a time: what has to be asked, the first change, the moved tail. `proofs/` says that they give
 -- what Insertion.antt and Answers.antt define. It serves 01 m5.6, m5.7, m5.8. Assumes nothing.
-use Prim.Native.Nat.{ℕ, suc, _*_, _-_, _≤_, _<_, max}
+use Prim.Native.Nat.{ℕ, suc, _+_, _*_, _-_, _≤_, _<_, max}
 use mathlib.Core.Path.{_≡_}
 use mathlib.Core.List.{List, [], _∷_, _++_}
 use mathlib.Core.Bool.{Bool, true, false, cond, _&&_}
 use lib.ListN.{length, take, drop, replicate}
+use lib.Seq.{slice}
 use lib.Dec.{ltb}
 use Rattle.key_order.specs.Order.{isLess}
 use Rattle.query_item.specs.declared.ItemWords.{ItemWords}
@@ -70,6 +71,10 @@ pub record Moved (ws : List ℕ) (count : ℕ) (its : List ItemWords) (after : L
   pub size : length after ≡ length ws
   pub front : take (itemSize * length its) after ≡ flatAll its
   pub back : drop (itemSize * max count (length its)) after ≡ drop (itemSize * max count (length its)) ws
+
+-- the words from one index up to another moved up by an item's size; the words that this frees stand as they were
+unfoldable pub raised : List ℕ → ℕ → ℕ → List ℕ
+raised ws from to = take (from + itemSize) ws ++ (slice from to ws ++ drop (to + itemSize) ws)
 
 -- items set to 0 from one index up to another
 unfoldable pub cleared : List ℕ → ℕ → ℕ → List ℕ

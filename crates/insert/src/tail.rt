@@ -1,17 +1,18 @@
 // The tail of the list, from the first changed item on: where it starts, and how it is rewritten (01 m5.7, form.8).
 ghost use mathlib.Core.Path.{_≡_};
-ghost use Prim.Native.Nat.{_/_, _≤_};
+ghost use Prim.Native.Nat.{_*_, _/_, _≤_, _<_};
 ghost use lib.ListN.{length};
 ghost use Rattle.query_item.specs.Items.{itemSize, itemsFrom};
 ghost use Rattle.insert_merge.specs.Merge.{staying};
 ghost use Rattle.insert.specs.Insertion.{placed};
 ghost use Rattle.insert.specs.Answers.{laid};
-ghost use Rattle.insert.specs.Passes.{Ascending, Stay, keepsPlace, firstChanged, staysAt, pick, goesFirst, zeroItem, Moved, cleared};
+ghost use Rattle.insert.specs.Passes.{Ascending, Stay, keepsPlace, firstChanged, staysAt, pick, goesFirst, zeroItem, Moved, raised, cleared};
 use crate::window::count_below;
 use boundary::is_less;
 use insert_merge::fate_of;
 use insert_merge::is_staying;
 use insert_order::order_items;
+use item_words::ITEM_SIZE;
 use item_words::item_at;
 use item_words::write_item;
 use query_item::ItemWords;
@@ -62,7 +63,7 @@ pub(crate) fn rewrite(
 }
 
 // One pass. One item is always in hand: the result until it is placed, then the last one read. So each item is written where all that stood
-// there is read already.
+// there is read already. Where the result is placed, all that is left stays and no item was taken out, the rest moves up by one place at once.
 fn move_items(
     pool: &[u8],
     tail: &mut [u32],
@@ -78,7 +79,7 @@ fn move_items(
     let mut is_placed = false;
     let mut to: usize = 0;
     let mut i: usize = 0;
-    while i < count {
+    while (i < count) & !(is_placed & (asked <= i) & (to == i)) {
         let old = item_at(tail, i);
         let stays = stays_at(pool, i, asked, item, old);
         i += 1;
@@ -90,8 +91,26 @@ fn move_items(
             to += 1;
         }
     }
+    if i < count {
+        shift_up(tail, i, count);
+        write_item(tail, to, hand);
+        return count + 1;
+    }
     write_item(tail, to, hand);
     to + 1
+}
+
+// Moves the items from an index on, up to a count, up by one place. The words of the place that this frees stay as they are.
+fn shift_up(tail: &mut [u32], from: usize, count: usize)
+    requires { ⌜ (from ≤ count) × (count < length (now tail) / itemSize) ⌝ }
+    ensures { λ _. ⌜ now (tail .exit) ≡ raised (now (tail .entry)) (itemSize * from) (itemSize * count) ⌝ }
+{
+    let stop = ITEM_SIZE * from;
+    let mut k = ITEM_SIZE * count;
+    while stop < k {
+        k -= 1;
+        tail[k + ITEM_SIZE] = tail[k];
+    }
 }
 
 // Whether the item at the index i stays, one before the index asked by its fate.

@@ -14,7 +14,6 @@ ghost use Rattle.insert_order.specs.Order.{orderItems, plain, sameItem, 
 ghost use Rattle.insert_order.specs.Refusals.{bufferVerdict, orderVerdict, orderedVerdict, inputVerdict};
 ghost use Rattle.insert_order.specs.Passes.{followsPlain, isGreater, lastOrder, runStart, meetsPlain, lastPlain, repeats, quickClash};
 use boundary::is_equal;
-use boundary::is_less;
 use item_check::Checked;
 use item_check::MOST_ITEMS;
 use item_check::check_fault;
@@ -28,6 +27,7 @@ use item_words::query_item;
 use key_order::Ordering;
 use query_item::ItemWords;
 use query_item::RangeSet;
+use query_item::pooled::below_in;
 use query_item::pooled::compare_in;
 use query_item::pooled::compare_keys;
 
@@ -205,7 +205,7 @@ pub fn ends_below(pool: &[u8], x: ItemWords, y: ItemWords) -> bool
     let b = range_of(y);
     let e = a.end;
     let s = b.start;
-    is_less(compare_in(pool, e, s))
+    below_in(pool, e, s)
 }
 
 // inner: whether two items are equal in code, wrapper and key bytes.

@@ -1,5 +1,6 @@
 // The pair: what two ranges share, and their leftovers.
 ghost use mathlib.Core.Path.{_≡_};
+ghost use mathlib.Core.Bool.{cond};
 ghost use Rattle.key_order.specs.Order.{smaller};
 ghost use Rattle.query_item.specs.Boundaries.{fromTo};
 ghost use Rattle.item_check.specs.Checks.{verdictOf};
@@ -7,6 +8,7 @@ ghost use Rattle.intersect.specs.Pair.{before, meetSets, leftPart, leftO
 use crate::MaybeSet;
 use crate::PairAnswer;
 use crate::QueryItemIntersectionResult;
+use boundary::BoundaryKind;
 use boundary::is_less;
 use item_check::Checked;
 use item_check::check_fault;
@@ -15,11 +17,16 @@ use item_check::upright_fault;
 use item_words::query_item;
 use key_order::Ordering;
 use query_item::ItemWords;
+use query_item::KeyAt;
 use query_item::MaybeItem;
 use query_item::RangeSet;
 use query_item::RangeSetItem;
+use query_item::pooled::below_in;
 use query_item::pooled::compare_in;
 use query_item::pooled::invert_in;
+use query_item::pooled::key_of;
+use query_item::pooled::kind_of;
+use query_item::pooled::with_key;
 
 // What two items share, and what is left over of each (01 m3.1, m3.2, m3.6).
 pub fn intersect_items(pool: &[u8], ours: ItemWords, theirs: ItemWords) -> PairAnswer
@@ -83,7 +90,7 @@ pub fn is_before(pool: &[u8], a: RangeSet, b: RangeSet) -> bool
 {
     let end = a.end;
     let start = b.start;
-    is_less(compare_in(pool, end, start))
+    below_in(pool, end, start)
 }
 
 // What two ranges share.
@@ -114,14 +121,34 @@ pub fn overlap_by(starts: Ordering, ends: Ordering, ours: RangeSet, theirs: Rang
     }
 }
 
+// Part by part: which of two whole boundaries it is would be a matter of memory.
 fn smaller_of(o: Ordering, x: RangeSetItem, y: RangeSetItem) -> RangeSetItem
     ensures { λ r. ⌜ r ≡ smaller o x y ⌝ }
 {
-    match o {
-        Ordering::Less => x,
-        Ordering::Equal => y,
-        Ordering::Greater => y,
+    let first = is_less(o);
+    let kind = pick_kind(first, kind_of(x), kind_of(y));
+    with_key(kind, pick_key(first, key_of(x), key_of(y)))
+}
+
+fn pick_kind(first: bool, x: BoundaryKind, y: BoundaryKind) -> BoundaryKind
+    ensures { λ r. ⌜ r ≡ cond first x y ⌝ }
+{
+    if first { x } else { y }
+}
+
+fn pick_key(first: bool, x: KeyAt, y: KeyAt) -> KeyAt
+    ensures { λ r. ⌜ r ≡ cond first x y ⌝ }
+{
+    KeyAt {
+        offset: pick_word(first, x.offset, y.offset),
+        length: pick_word(first, x.length, y.length),
     }
+}
+
+fn pick_word(first: bool, x: u32, y: u32) -> u32
+    ensures { λ r. ⌜ r ≡ cond first x y ⌝ }
+{
+    if first { x } else { y }
 }
 
 // What of a stands left of b.
@@ -143,7 +170,7 @@ pub fn left_part(pool: &[u8], a: RangeSet, b: RangeSet) -> MaybeSet
 {
     let start = a.start;
     let stop = b.start;
-    if is_less(compare_in(pool, start, stop)) {
+    if below_in(pool, start, stop) {
         return MaybeSet::Set(RangeSet {
             start,
             end: invert_in(stop, false),
@@ -171,7 +198,7 @@ fn right_part(pool: &[u8], a: RangeSet, b: RangeSet) -> MaybeSet
 {
     let from = b.end;
     let end = a.end;
-    if is_less(compare_in(pool, from, end)) {
+    if below_in(pool, from, end) {
         return MaybeSet::Set(RangeSet {
             start: invert_in(from, true),
             end,

@@ -1,11 +1,17 @@
 -- What the ways in which two ranges stand say of them. Assumes nothing.
 use Prim.Native.Nat.{ℕ}
-use mathlib.Core.Path.{_≡_, refl, sym}
-use mathlib.Core.Bool.{Bool, true, false, cond}
+use mathlib.Core.Path.{_≡_, refl, sym, _∙_}
+use mathlib.Core.Bool.{Bool, true, false, cond, not}
 use mathlib.Core.List.{List}
+use native.Mathlib.Nat.{le-refl}
+use borrow.Author.Tests.{lt-ltb, leb-false, not-true}
 use Rattle.key_order.specs.declared.Ordering.{Ordering}
+use Rattle.key_order.specs.Order.{isLess, isAtMost}
+use Rattle.key_order.proofs.Line.{size}
+use Rattle.query_item.specs.declared.RangeSetItem.{RangeSetItem}
 use Rattle.query_item.specs.declared.RangeSet.{RangeSet}
 use Rattle.query_item.specs.Boundaries.{compareIn}
+use Rattle.query_item.proofs.Laws.{rankIn, less-rank, at-most-rank}
 use Rattle.intersect.specs.Pair.{before}
 use Rattle.intersect_many.specs.declared.Stand.{Stand}
 use Rattle.intersect_many.specs.declared.Stand.the-variants.{Before, After, Meets}
@@ -39,3 +45,11 @@ module _ (pool : List ℕ) (a b : RangeSet) where
       go true t o e = let z : Before ≡ Meets ends = e in (cc, cc, cc)
       go false true o e = (cc, cc, cc)
       go false false o e = (cc, refl, refl)
+
+-- what is not at most another is above it
+pub above-below : (pool : List ℕ) (x y : RangeSetItem) → not (isAtMost (compareIn pool x y)) ≡ true → isLess (compareIn pool y x) ≡ true
+above-below pool x y e =
+    let n = size pool in
+    let k = le-refl n in
+    less-rank pool n k y x
+    ∙ lt-ltb _ _ (leb-false (rankIn pool n k x) (rankIn pool n k y) (sym (at-most-rank pool n k x y) ∙ not-true _ e))

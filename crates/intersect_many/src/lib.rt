@@ -3,21 +3,23 @@
 //
 // One pass over both lists with two indexes. What is left of our item and of theirs, at the indexes, is kept beside them.
 ghost use mathlib.Core.Path.{_≡_};
-ghost use mathlib.Core.Bool.{cond};
+ghost use mathlib.Core.Bool.{true, false, cond};
 ghost use mathlib.Core.List.{[]};
 ghost use Prim.Native.Nat.{_+_, _/_, _≤_};
 ghost use lib.ListN.{length};
 ghost use Rattle.query_item.specs.Items.{itemSize};
 ghost use Rattle.item_check.specs.Checks.{verdictOf, accepted, listVerdict};
+ghost use Rattle.key_order.specs.Order.{isLess};
+ghost use Rattle.query_item.specs.Boundaries.{compareIn, invertOf, fromTo};
+ghost use Rattle.keyless.specs.Keyless.{pieceItem};
 ghost use Rattle.item_lists.specs.Written.{asItems, plain, written};
-ghost use Rattle.intersect.specs.Pair.{meetSets, leftPart, leftOver, asSets};
+ghost use Rattle.intersect.specs.Pair.{before, meetSets, leftPart, leftOver};
 ghost use Rattle.intersect_many.specs.Lists.{keyedItems, sharedItems, onlyItems, manyOf, bothVerdict, listsVerdict, lacksRoom, countsOf, roomAnswer, manyAnswer};
 ghost use Rattle.intersect_many.specs.Sweep.{rightSet, restLeft, standOf, Put, Few, Turn};
 use boundary::is_at_most;
 use boundary::is_less;
-use intersect::MaybeSet;
+use boundary::rung_of;
 use intersect::pair::is_before;
-use intersect::pair::left_part;
 use intersect::pair::overlap_by;
 use item_check::Checked;
 use item_check::Refusal;
@@ -29,10 +31,13 @@ use item_lists::put_item;
 use item_words::ITEM_SIZE;
 use key_order::Ordering;
 use keyless::piece_item;
-use query_item::MaybeItem;
 use query_item::RangeSet;
+use query_item::RangeSetItem;
+use query_item::pooled::below_in;
 use query_item::pooled::compare_in;
 use query_item::pooled::invert_in;
+use query_item::pooled::key_of;
+use query_item::pooled::kind_of;
 
 // How many items the three lists have.
 pub struct ManyCounts {
@@ -76,23 +81,50 @@ pub fn intersect_many_ordered(
     }
 }
 
-// Writes an item, if there is one, at index n, and says where the next one goes.
-fn put(out: &mut [u32], n: usize, item: MaybeItem) -> usize
+// Writes the item of a range, if it holds a key, at index n, and says where the next one goes.
+fn put_set(pool: &[u8], out: &mut [u32], n: usize, set: RangeSet) -> usize
     requires { ⌜ n ≤ 4096 ⌝ }
-    ensures { λ r. ⌜ Put (now (out .entry)) n (asItems item) (now (out .exit)) r ⌝ }
+    ensures { λ r. ⌜ Put (now (out .entry)) n (asItems (pieceItem (now (pool .entry)) set)) (now (out .exit)) r ⌝ }
 {
-    n + put_item(out, n, item)
+    n + put_item(out, n, piece_item(pool, set))
 }
 
-// What of a stands past b, where b ends first.
-fn right_set(pool: &[u8], a: RangeSet, b: RangeSet) -> RangeSet
-    ensures { λ r. ⌜ r ≡ rightSet (now (pool .entry)) a b ⌝ }
+// Whether two boundaries are of one kind and name one key, by offset and length. No byte is looked at.
+fn is_same_boundary(x: RangeSetItem, y: RangeSetItem) -> bool
+    ensures { λ r. ⌜ (r ≡ true → x ≡ y) ⌝ }
 {
-    if is_before(pool, b, a) {
-        return a;
+    let k = key_of(x);
+    let l = key_of(y);
+    (rung_of(kind_of(x)) == rung_of(kind_of(y))) & (k.offset == l.offset) & (k.length == l.length)
+}
+
+// What of x stands past b, where b ends first. As long as x starts where the whole item does, which meets b, that need not be asked.
+fn right_set(pool: &[u8], a: RangeSet, x: RangeSet, b: RangeSet) -> RangeSet
+    requires { ⌜ before (now pool) b a ≡ false ⌝ }
+    ensures { λ r. ⌜ r ≡ rightSet (now (pool .entry)) x b ⌝ }
+{
+    let whole = a.start;
+    let start = x.start;
+    if !is_same_boundary(start, whole) {
+        return right_asked(pool, x, b);
     }
+    past_set(x, b)
+}
+
+fn right_asked(pool: &[u8], x: RangeSet, b: RangeSet) -> RangeSet
+    ensures { λ r. ⌜ r ≡ rightSet (now (pool .entry)) x b ⌝ }
+{
+    if is_before(pool, b, x) {
+        return x;
+    }
+    past_set(x, b)
+}
+
+fn past_set(x: RangeSet, b: RangeSet) -> RangeSet
+    ensures { λ r. ⌜ r ≡ fromTo (invertOf (b .end) true) (x .end) ⌝ }
+{
     let from = b.end;
-    let end = a.end;
+    let end = x.end;
     RangeSet {
         start: invert_in(from, true),
         end,
@@ -114,24 +146,44 @@ fn how_they_stand(pool: &[u8], a: RangeSet, b: RangeSet) -> Stand
     Stand::Meets(compare_in(pool, our_end, their_end))
 }
 
-// What of a starts below b, as an item, where it is not known that none does.
-fn left_item(pool: &[u8], may: bool, a: RangeSet, b: RangeSet) -> MaybeItem
-    ensures { λ r. ⌜ asItems r ≡ keyedItems (now (pool .entry)) (cond may (leftPart (now (pool .entry)) a b) []) ⌝ }
+// What of x starts below b, written at index n, where it is not known that none does. As long as x starts where the whole item does, which
+// starts below b then, that need not be asked again.
+fn put_left(
+    pool: &[u8],
+    may: bool,
+    a: RangeSet,
+    x: RangeSet,
+    b: RangeSet,
+    out: &mut [u32],
+    n: usize,
+) -> usize
+    requires { ⌜ (n ≤ 4096) × (may ≡ true → isLess (compareIn (now pool) (a .start) (b .start)) ≡ true) ⌝ }
+    ensures { λ r. ⌜ Put (now (out .entry)) n (keyedItems (now (pool .entry)) (cond may (leftPart (now (pool .entry)) x b) [])) (now (out .exit)) r ⌝ }
 {
-    if may {
-        return piece_of(pool, left_part(pool, a, b));
+    if !may {
+        return n;
     }
-    MaybeItem::NoItem
+    let whole = a.start;
+    let start = x.start;
+    if is_same_boundary(start, whole) {
+        return put_below(pool, x, b, out, n);
+    }
+    let stop = b.start;
+    if below_in(pool, start, stop) {
+        return put_below(pool, x, b, out, n);
+    }
+    n
 }
 
-// The item of a piece that may be missing; none where it holds no key.
-fn piece_of(pool: &[u8], set: MaybeSet) -> MaybeItem
-    ensures { λ r. ⌜ asItems r ≡ keyedItems (now (pool .entry)) (asSets set) ⌝ }
+// What of x stands below the start of b.
+fn put_below(pool: &[u8], x: RangeSet, b: RangeSet, out: &mut [u32], n: usize) -> usize
+    requires { ⌜ n ≤ 4096 ⌝ }
+    ensures { λ r. ⌜ Put (now (out .entry)) n (asItems (pieceItem (now (pool .entry)) (fromTo (x .start) (invertOf (b .start) false)))) (now (out .exit)) r ⌝ }
 {
-    match set {
-        MaybeSet::NoSet => MaybeItem::NoItem,
-        MaybeSet::Set(s) => piece_item(pool, s),
-    }
+    let start = x.start;
+    let stop = b.start;
+    let end = invert_in(stop, false);
+    put_set(pool, out, n, RangeSet { start, end })
 }
 
 // A turn's items where a and b meet: what they share, and what of each, of which x and y are left, starts below the other.
@@ -156,13 +208,9 @@ fn emit(
     let their_start = b.start;
     let starts = compare_in(pool, our_start, their_start);
     ManyCounts {
-        in_both: put(
-            both,
-            n.in_both,
-            piece_item(pool, overlap_by(starts, ends, a, b)),
-        ),
-        ours: put(ours, n.ours, left_item(pool, is_less(starts), x, b)),
-        theirs: put(theirs, n.theirs, left_item(pool, !is_at_most(starts), y, a)),
+        in_both: put_set(pool, both, n.in_both, overlap_by(starts, ends, a, b)),
+        ours: put_left(pool, is_less(starts), a, x, b, ours, n.ours),
+        theirs: put_left(pool, !is_at_most(starts), b, y, a, theirs, n.theirs),
     }
 }
 
@@ -175,10 +223,10 @@ fn put_rest(pool: &[u8], words: &[u32], i: usize, x: RangeSet, out: &mut [u32], 
     if count <= i {
         return n;
     }
-    let mut m = put(out, n, piece_item(pool, x));
+    let mut m = put_set(pool, out, n, x);
     let mut k = i + 1;
     while k < count {
-        m = put(out, m, piece_item(pool, set_at(words, k)));
+        m = put_set(pool, out, m, set_at(words, k));
         k += 1;
     }
     m
@@ -235,12 +283,12 @@ fn sweep(
         let b = set_at(theirs, j);
         match how_they_stand(pool, a, b) {
             Stand::Before => {
-                n = with_ours(n, put(mine, n.ours, piece_item(pool, x)));
+                n = with_ours(n, put_set(pool, mine, n.ours, x));
                 i += 1;
                 x = set_at(ours, i);
             }
             Stand::After => {
-                n = with_theirs(n, put(yours, n.theirs, piece_item(pool, y)));
+                n = with_theirs(n, put_set(pool, yours, n.theirs, y));
                 j += 1;
                 y = set_at(theirs, j);
             }
@@ -248,12 +296,12 @@ fn sweep(
                 n = emit(pool, ends, a, b, x, y, both, mine, yours, n);
                 match ends {
                     Ordering::Less => {
-                        y = right_set(pool, y, a);
+                        y = right_set(pool, b, y, a);
                         i += 1;
                         x = set_at(ours, i);
                     }
                     Ordering::Greater => {
-                        x = right_set(pool, x, b);
+                        x = right_set(pool, a, x, b);
                         j += 1;
                         y = set_at(theirs, j);
                     }

@@ -1,4 +1,5 @@
 pub mod Tests
+pub mod Faults
 pub mod Scans
 pub mod Accepted
 pub mod Strict

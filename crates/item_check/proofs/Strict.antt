@@ -67,7 +67,7 @@ module _ {start end : ℕ → ℕ} {count : ℕ} (r : Strict start end count) wh
 
 -- ---- an accepted list, at a size that fits the pool and the key
 
-both-true : (p q : Bool) → p && q ≡ true → (p ≡ true) × (q ≡ true)
+pub both-true : (p q : Bool) → p && q ≡ true → (p ≡ true) × (q ≡ true)
 both-true true true e = (refl, refl)
 both-true true false e = absurd (true≢false (sym e))
 both-true false q e = absurd (true≢false (sym e))

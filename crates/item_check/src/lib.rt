@@ -2,18 +2,18 @@
 // lent items refuses by these. What a crate above checks besides stands there: the order of a list that is inserted into, position items,
 // intervals and proved positions, a report, a file. Module 1 refuses nothing. Definitions: specs/Checks.antt. Laws: proofs/Laws.antt.
 ghost use mathlib.Core.Path.{_≡_};
-ghost use Rattle.query_item.specs.Items.{itemsFrom};
+ghost use lib.Dec.{eqb};
+ghost use Rattle.query_item.specs.Items.{keyAt, itemWords, itemAt, itemsFrom};
 ghost use Rattle.query_item.specs.Boundaries.{setAt, upright};
 ghost use Rattle.item_check.specs.Checks.{verdictOf, refused, hasStart, hasEnd, written, malformed, keyOut, outside, itemFault, uprightFault, faultAt, poolVerdict, shapeVerdict, firstBad, strictVerdict, wholeVerdict, listVerdict, singleVerdict, keysVerdict, setVerdict, checkVerdict};
-use boundary::is_at_most;
-use boundary::is_less;
 use item_words::ITEM_SIZE;
 use item_words::item_at;
 use item_words::query_item;
 use query_item::ItemWords;
 use query_item::KeyAt;
 use query_item::RangeSet;
-use query_item::pooled::compare_in;
+use query_item::pooled::at_most_in;
+use query_item::pooled::below_in;
 use query_item::pooled::key_of;
 
 // A refusal: its number, the side (0 ours, 1 theirs), and the index of the item, pair or position.
@@ -98,19 +98,62 @@ pub fn check_shape(words: &[u32], side: u32) -> Checked
     Checked::Accepted
 }
 
-// inner: what the first bad one of the first count items is refused for: 1, 2 or 3.
+// inner: what the first bad one of the first count items is refused for: 1, 2 or 3. Which it is, is asked of that one alone.
 pub fn check_items(pool: &[u8], words: &[u32], count: usize, side: u32) -> Checked
     ensures { λ r. ⌜ verdictOf r ≡ firstBad (uprightFault (now (pool .entry))) side 0 (itemsFrom (now (words .entry)) 0 count) ⌝ }
 {
     let mut i: usize = 0;
     while i < count {
-        let fault = upright_fault(pool, item_at(words, i));
-        if fault != 0 {
-            return refuse(fault, side, i);
+        if !sound_at(pool, words, i) {
+            return refuse(upright_fault(pool, item_at(words, i)), side, i);
         }
         i += 1;
     }
     Checked::Accepted
+}
+
+// Whether nothing is wrong with the item at an index.
+fn sound_at(pool: &[u8], words: &[u32], i: usize) -> bool
+    ensures { λ r. ⌜ r ≡ eqb (uprightFault (now (pool .entry)) (itemAt (now (words .entry)) i)) 0 ⌝ }
+{
+    let item = item_at(words, i);
+    is_sound(
+        pool,
+        item.code,
+        item.wrapper,
+        item.start.offset,
+        item.start.length,
+        item.end.offset,
+        item.end.length,
+    )
+}
+
+// The same of six numbers: what stays in registers is not waited for, as a key is that was just written word by word and is read whole.
+fn is_sound(pool: &[u8], code: u32, wrapper: u32, i: u32, m: u32, j: u32, n: u32) -> bool
+    ensures { λ r. ⌜ r ≡ eqb (uprightFault (now (pool .entry)) (itemWords code wrapper (keyAt i m) (keyAt j n))) 0 ⌝ }
+{
+    let start = KeyAt {
+        offset: i,
+        length: m,
+    };
+    let end = KeyAt {
+        offset: j,
+        length: n,
+    };
+    let item = ItemWords {
+        code,
+        wrapper,
+        start,
+        end,
+    };
+    if is_malformed(item) | is_outside(pool, item) {
+        return false;
+    }
+    // a key is upright, whatever its bytes are
+    if code == 0 {
+        return true;
+    }
+    is_upright(pool, query_item(item).to_range_set())
 }
 
 // inner: each of the first count items ends below the start of the next; else 4.
@@ -122,7 +165,7 @@ pub fn check_strict(pool: &[u8], words: &[u32], count: usize, side: u32) -> Chec
     while i < count {
         let set = set_at(words, i);
         let start = set.start;
-        if !is_less(compare_in(pool, end, start)) {
+        if !below_in(pool, end, start) {
             return refuse(4, side, i);
         }
         end = set.end;
@@ -177,7 +220,7 @@ pub fn is_upright(pool: &[u8], set: RangeSet) -> bool
 {
     let start = set.start;
     let end = set.end;
-    is_at_most(compare_in(pool, start, end))
+    at_most_in(pool, start, end)
 }
 
 // inner: whether an item of a code has a start key.

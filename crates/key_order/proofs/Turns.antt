@@ -1,17 +1,20 @@
--- The order of two keys from a place on, as a loop over both of them meets it: a turn of eight bytes, a turn of one, and the three ends.
+-- The order of two keys from a place on, as a loop over both of them meets it: a turn of eight bytes, a turn of one, the ends, and blocks that agree.
 -- Assumes nothing.
-use Prim.Native.Nat.{ℕ, suc, _+_, _-_, _≤_, _<_}
+use Prim.Native.Nat.{ℕ, suc, _+_, _-_, _≤_, _<_, min}
 use mathlib.Core.Path.{_≡_, refl, sym, ap₂, _∙_}
 use mathlib.Core.Logic.{_≢_}
 use mathlib.Core.List.{List, [], _∷_, _++_}
+use native.Mathlib.Decide.{decLt}
 use native.Mathlib.Omega.{arith}
 use native.Mathlib.Numerals.{add-one}
 use lib.ListN.{length, take, drop, getD, drop-of-length-le, length-drop, take-append-drop}
+use lib.Bits.{bitOr, bitXor, or-add-and, xor-add-and, and-le-l, and-le-r}
 use lib.Seq.{drop-cons, drop-drop, length-take-le}
 use Rattle.key_order.specs.declared.Ordering.{Ordering}
 use Rattle.key_order.specs.declared.Ordering.the-variants.{Less, Equal, Greater}
 use Rattle.key_order.specs.Order.{compareNumbers, thenBy, compareKeys}
 use Rattle.key_order.specs.Words.{be}
+use Rattle.key_order.specs.Inner.{Reached}
 use Rattle.key_order.proofs.Numbers.{Says, says-unique, numbers-say, numbers-of-says}
 use Rattle.key_order.proofs.Words.{Bytes, bytes-take, bytes-drop, be-says}
 
@@ -21,6 +24,15 @@ then-by-then : (o p q : Ordering) → thenBy (thenBy o p) q ≡ thenBy o (thenBy
 then-by-then Less p q = refl
 then-by-then Equal p q = refl
 then-by-then Greater p q = refl
+
+-- numbers that differ leave nothing to decide
+then-apart : (x y : ℕ) → x ≢ y → (r : Ordering) → thenBy (compareNumbers x y) r ≡ compareNumbers x y
+then-apart x y d = go (compareNumbers x y) (numbers-say x y)
+  where
+    go : (o : Ordering) → Says o x y → (r : Ordering) → thenBy o r ≡ o
+    go Less s r = refl
+    go Equal s r = absurd (d s)
+    go Greater s r = refl
 
 -- keys that begin with parts of one length: the parts decide, and then what follows
 compare-append : (x y k l : List ℕ) → length x ≡ length y → compareKeys (x ++ k) (y ++ l) ≡ thenBy (compareKeys x y) (compareKeys k l)
@@ -53,12 +65,7 @@ module _ (a b : List ℕ) (i : ℕ) (h : i + 8 ≤ length a) (k : i + 8 ≤ leng
         (rw (p, q, e) at says)
 
     pub word-decides : x ≢ y → compareKeys (drop i a) (drop i b) ≡ compareNumbers x y
-    word-decides d = word-turn ∙ rw (word-is (compareNumbers x y) (numbers-say x y)) (go (compareNumbers x y) (numbers-say x y) _)
-      where
-        go : (o : Ordering) → Says o x y → (r : Ordering) → thenBy o r ≡ o
-        go Less s r = refl
-        go Equal s r = absurd (d s)
-        go Greater s r = refl
+    word-decides d = word-turn ∙ rw (word-is (compareNumbers x y) (numbers-say x y)) (then-apart x y d _)
 
     pub word-same : x ≡ y → compareKeys (drop i a) (drop i b) ≡ compareKeys (drop (i + 8) a) (drop (i + 8) b)
     word-same e = word-turn ∙ rw (word-is Equal e)
@@ -72,18 +79,37 @@ module _ (a b : List ℕ) (i : ℕ) where
   unfolding compareKeys
   turn h k = rw (drop-cons a i 0, drop-cons b i 0)
 
-  pub same-here : i < length a → i < length b → getD a i 0 ≤ getD b i 0 → getD b i 0 ≤ getD a i 0
+  pub same-here : i < length a → i < length b → getD a i 0 ≡ getD b i 0
       → compareKeys (drop i a) (drop i b) ≡ compareKeys (drop (i + 1) a) (drop (i + 1) b)
-  same-here h k x y = let e : getD a i 0 ≡ getD b i 0 = omega arith in rw (turn, add-one, numbers-of-says Equal)
+  same-here h k e = rw (turn, add-one, numbers-of-says Equal)
 
-  pub first-ends : length a ≤ i → i < length b → compareKeys (drop i a) (drop i b) ≡ Less
-  unfolding compareKeys
-  first-ends h k = rw (drop-of-length-le a, drop-cons b i 0)
+  pub byte-decides : i < length a → i < length b → getD a i 0 ≢ getD b i 0
+      → compareKeys (drop i a) (drop i b) ≡ compareNumbers (getD a i 0) (getD b i 0)
+  byte-decides h k d = turn h k ∙ then-apart (getD a i 0) (getD b i 0) d _
 
-  pub second-ends : i < length a → length b ≤ i → compareKeys (drop i a) (drop i b) ≡ Greater
+  -- where the shorter one has ended the lengths decide
+  pub lengths-decide : i ≤ length a → i ≤ length b → min (length a) (length b) ≤ i
+      → compareKeys (drop i a) (drop i b) ≡ compareNumbers (length a) (length b)
   unfolding compareKeys
-  second-ends h k = rw (drop-of-length-le b, drop-cons a i 0)
+  lengths-decide h k e = elim (decLt i (length a)) [
+    | yes l ↦ let s : length b ≤ i = omega arith in rw (drop-of-length-le b, drop-cons a i 0) (sym (numbers-of-says Greater _ _ (omega arith)))
+    | no l ↦ let s : length a ≤ i = omega arith in elim (decLt i (length b)) [
+      | yes m ↦ rw (drop-of-length-le a, drop-cons b i 0) (sym (numbers-of-says Less _ _ (omega arith)))
+      | no m ↦ let t : length b ≤ i = omega arith in rw (drop-of-length-le a, drop-of-length-le b) (sym (numbers-of-says Equal _ _ (omega arith)))
+    ]
+  ]
 
-  pub both-end : length a ≤ i → length b ≤ i → compareKeys (drop i a) (drop i b) ≡ Equal
-  unfolding compareKeys
-  both-end h k = rw (drop-of-length-le a, drop-of-length-le b)
+-- ---- places up to which the keys agree
+
+pub reached-start : (a b : List ℕ) → Reached a b 0
+reached-start a b = record { first = omega arith; second = omega arith; order = refl }
+
+pub reached-byte : (a b : List ℕ) (i : ℕ) → i < length a → i < length b → getD a i 0 ≡ getD b i 0 → Reached a b i → Reached a b (i + 1)
+reached-byte a b i h k e r = record { first = omega arith; second = omega arith; order = r .order ∙ same-here a b i h k e }
+
+-- bits that differ, gathered in one number: none did, and none does here
+pub none-apart : (g x y : ℕ) → bitOr g (bitXor x y) ≡ 0 → (g ≡ 0) × (x ≡ y)
+none-apart g x y e =
+    let z : (g ≡ 0) × (bitXor x y ≡ 0) =
+    (omega (arith, or-add-and g (bitXor x y), and-le-l g (bitXor x y), and-le-r g (bitXor x y)), omega (arith, or-add-and g (bitXor x y), and-le-l g (bitXor x y), and-le-r g (bitXor x y))) in
+    (z .0, omega (arith, z .1, xor-add-and x y, and-le-l x y, and-le-r x y))

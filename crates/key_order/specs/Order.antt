@@ -35,6 +35,16 @@ smaller Less a b = a
 smaller Equal a b = b
 smaller Greater a b = b
 
+-- 01 m1.1: an order as a number, and the order of a number: what is below 1 is Less, what is above it Greater
+
+abbrev pub orderNumber : Ordering → ℕ
+orderNumber Less = 0
+orderNumber Equal = 1
+orderNumber Greater = 2
+
+abbrev pub numberOrder : ℕ → Ordering
+numberOrder x = byTests (ltb x 1) (ltb 1 x)
+
 -- 01 m1.1: tests of an answer: less, less or equal, equal
 
 abbrev pub isLess : Ordering → Bool

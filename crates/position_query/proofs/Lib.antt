@@ -1,3 +1,4 @@
 pub mod Laws
 pub mod Ranges
+pub mod Clean
 pub mod Builds

@@ -1,7 +1,7 @@
 -- The ranges of position items: which positions an item with good keys holds, which items have a bad key, and what the nonempty clipped
 -- ranges of accepted items are. Assumes nothing.
 use Prim.Native.Nat.{ℕ, zero, suc, _+_, _≤_, _<_, min}
-use mathlib.Core.Path.{_≡_, refl, sym, _∙_}
+use mathlib.Core.Path.{_≡_, refl, sym, ap, _∙_}
 use mathlib.Core.Bool.{Bool, true, false, cond, not, _&&_, _||_, and-true, false≢true, and-or-distrib-left, and-false}
 use mathlib.Core.List.{List, [], _∷_, _++_}
 use native.Mathlib.Decide.{decLt, ℕ-discrete}
@@ -9,7 +9,7 @@ use native.Mathlib.Omega.{arith}
 use lib.ListN.{length, drop, List·getD-eq-default, length-take}
 use lib.Seq.{getD-take, getD-drop}
 use lib.Dec.{leb, ltb, eqb}
-use borrow.Author.Tests.{lt-ltb, le-ltb, le-leb, lt-leb, eq-eqb, ne-eqb, eqb-true, ltb-false}
+use borrow.Author.Tests.{lt-ltb, le-ltb, le-leb, lt-leb, eq-eqb, ne-eqb, eqb-true}
 use Rattle.key_order.specs.declared.Ordering.{Ordering}
 use Rattle.key_order.specs.declared.Ordering.the-variants.{Less, Equal, Greater}
 use Rattle.key_order.specs.Order.{compareKeys, isEqual}
@@ -32,6 +32,7 @@ use Rattle.key_order.specs.Words.{be}
 use Rattle.position_key.specs.Keys.{keySize, positionKey, positionAnswer}
 use Rattle.position_query.specs.Covered.{holdsPosition, someHolds, covered, noPosition, badKey, positionFault, anyBelow, rangesNeeded}
 use Rattle.position_given.specs.Inner.{lastWord}
+use Rattle.position_query.specs.Inner.{firstBy, pastBy}
 use Rattle.position_query.specs.Ranges.{afterOf, firstOf, pastOf, bothOf, rangeAnswer, clipTo, clipped, ranges}
 use Rattle.key_order.proofs.Words.{Bytes, be-says}
 use Rattle.position_key.proofs.Keys.{bytes-length, bytes-small, be-position}
@@ -143,7 +144,7 @@ item-held pool B (item.RangeAfterToInclusive a b) s e p f t l =
 
 -- ---- bad keys
 
-abbrev pub isRefused : {A : Type 0} → Answer A → Bool
+abbrev isRefused : {A : Type 0} → Answer A → Bool
 isRefused (answered a) = false
 isRefused (refused n s i) = true
 
@@ -190,18 +191,8 @@ module _ (pool : List ℕ) (a b : KeyAt) where
       (sym (refused-both (afterOf x) (afterOf y) ∙ rw (refused-after x, refused-after y, A, B)))
 
 -- a known item has a bad key exactly where its range is refused
-pub bad-range : (pool : List ℕ) (it : ItemWords) → malformed it ≡ false → badKey pool it ≡ isRefused (rangeAnswer pool (rangeOf it))
+bad-range : (pool : List ℕ) (it : ItemWords) → malformed it ≡ false → badKey pool it ≡ isRefused (rangeAnswer pool (rangeOf it))
 bad-range pool it h = bad-code pool (it .start) (it .end) (it .code) (formed-parts it h .known)
-
--- ---- faults
-
--- of an item with no fault of its own and no wrapper, 7 or nothing
-pub fault-late : (pool : List ℕ) (it : ItemWords) (r : Bool) → malformed it ≡ false → outside pool it ≡ false → it .wrapper ≡ 0
-    → isRefused (rangeAnswer pool (rangeOf it)) ≡ r → positionFault pool it ≡ cond r 7 0
-fault-late pool it r m o w e = rw (m, o, eq-eqb (it .wrapper) 0 w, bad-range pool it m, e)
-
-pub fault-wrapped : (pool : List ℕ) (it : ItemWords) → malformed it ≡ false → outside pool it ≡ false → (it .wrapper ≡ 0 → ⊥) → positionFault pool it ≡ 5
-fault-wrapped pool it m o w = rw (m, o, ne-eqb (it .wrapper) 0 w)
 
 -- nothing is wrong with an item whose fault is 0
 clean : (pool : List ℕ) (it : ItemWords) → positionFault pool it ≡ 0 → (malformed it ≡ false) × (badKey pool it ≡ false)
@@ -213,6 +204,51 @@ clean pool it h = go (malformed it) (outside pool it) (wrapped it) (badKey pool 
     go false false true b e = absurd (omega arith)
     go false false false true e = absurd (omega arith)
     go false false false false e = (refl, refl)
+
+-- ---- an item's range by its code
+
+module _ (pool : List ℕ) (a b : KeyAt) where
+  abbrev FirstBy : ℕ → Type 0
+  FirstBy c = firstOf pool (toRangeSet (itemOf c a b) .start) ≡ firstBy c (positionAnswer (bytesOf pool a))
+
+  abbrev PastBy : ℕ → Type 0
+  PastBy c = pastOf pool (toRangeSet (itemOf c a b) .end) ≡ pastBy c (positionAnswer (bytesOf pool a)) (positionAnswer (bytesOf pool b))
+
+  -- a code that the table has not
+  unknown : (c : ℕ) → 9 < c → itemOf c a b ≡ item.RangeFull
+  unknown c h =
+      let no : (n : ℕ) → n ≤ 9 → eqb c n ≡ false = (λ n l. ne-eqb c n (λ e. omega arith)) in
+      rw (
+        no 0 (omega arith),
+        no 1 (omega arith),
+        no 2 (omega arith),
+        no 4 (omega arith),
+        no 5 (omega arith),
+        no 6 (omega arith),
+        no 7 (omega arith),
+        no 8 (omega arith),
+        no 9 (omega arith),
+      )
+
+  code-first : (c : ℕ) → FirstBy c
+  code-first c = elim (decLt 9 c) [
+    | yes h ↦ ap (λ (q : QueryItem). firstOf pool (toRangeSet q .start)) (unknown c h) ∙ sym (rw (lt-ltb 9 c h))
+    | no h ↦ each-code FirstBy refl refl refl refl refl refl refl refl refl refl c (omega arith)
+  ]
+
+  code-past : (c : ℕ) → PastBy c
+  code-past c = elim (decLt 9 c) [
+    | yes h ↦ ap (λ (q : QueryItem). pastOf pool (toRangeSet q .end)) (unknown c h) ∙ sym (rw (lt-ltb 9 c h))
+    | no h ↦ each-code PastBy refl refl refl refl refl refl refl refl refl refl c (omega arith)
+  ]
+
+pub clipped-by : (pool : List ℕ) (count : ℕ) (it : ItemWords) (x y : Answer ℕ) → x ≡ firstBy (it .code) (positionAnswer (bytesOf pool (it .start)))
+    → y ≡ pastBy (it .code) (positionAnswer (bytesOf pool (it .start))) (positionAnswer (bytesOf pool (it .end)))
+    → clipped pool count it ≡ clipTo count (bothOf x y)
+clipped-by pool count it x y p q =
+    let first : firstOf pool (rangeOf it .start) ≡ x = code-first pool (it .start) (it .end) (it .code) ∙ sym p in
+    let past : pastOf pool (rangeOf it .end) ≡ y = code-past pool (it .start) (it .end) (it .code) ∙ sym q in
+    λ i. clipTo count (bothOf (first i) (past i))
 
 -- ---- an item's clipped range
 

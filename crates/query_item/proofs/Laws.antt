@@ -2,6 +2,8 @@
 
 -- items read back from their words
 pub use Rattle.query_item.proofs.Words.{query-words, wrapper-words, each-code}
+-- a boundary is made of its kind and its key
+pub use Rattle.query_item.proofs.Made.{with-own-key, same-made}
 -- an item holds a key by the table exactly where the key lies between its boundaries, and what two boundaries make holds what lies between
 pub use Rattle.query_item.proofs.Held.{holds-between, Keeps, item-keeps, holds-converted}
 -- a start and an end make an item, and it shows what these tell; items that show the same have the same boundaries

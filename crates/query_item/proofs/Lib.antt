@@ -1,4 +1,5 @@
 pub mod Parts
+pub mod Made
 pub mod Words
 pub mod Fits
 pub mod Held

@@ -26,13 +26,13 @@ pub enum QueryItem {
     RangeAfterToInclusive(KeyAt, KeyAt),
 }
 
-// A boundary whose key is a part of the pool.
+// A boundary whose key is a part of the pool; the kinds stand in the order of `BoundaryKind`.
 pub enum RangeSetItem {
     UnboundedStart,
-    UnboundedEnd,
+    ExclusiveEnd(KeyAt),
     Inclusive(KeyAt),
     ExclusiveStart(KeyAt),
-    ExclusiveEnd(KeyAt),
+    UnboundedEnd,
 }
 
 // A range by its two boundaries.

@@ -6,9 +6,8 @@ use Rattle.insert_order.proofs.ends_below.Tie as tie
 
 returns : tie.Need-returns
 unfolding endsBelow
-returns c = rw (c .is-less .ensures, c .before .compare-in .ensures, c .before .before .range-of2 .ensures, c .before .before .before .range-of .ensures)
+returns c = rw (c .below-in .ensures, c .before .range-of2 .ensures, c .before .before .range-of .ensures)
 
 pub ends-below-spec : {M : Type 1} → statement M
 ends-below-spec =
-    tie.close
-    (tie.spec (λ c κs. search needs) (λ c κs. search needs) (λ c κs. search needs) (λ c κs. search needs) returns)
+    tie.close (tie.spec (λ c κs. search needs) (λ c κs. search needs) (λ c κs. search needs) returns)

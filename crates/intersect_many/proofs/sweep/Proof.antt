@@ -21,13 +21,11 @@ use Rattle.intersect_many.proofs.sweep.Reads as reads
 use Rattle.intersect_many.proofs.sweep.Lts as lts
 use Rattle.intersect_many.proofs.emit.Reads as emit-reads
 use Rattle.intersect_many.proofs.how_they_stand.Reads as how-they-stand-reads
-use Rattle.intersect_many.proofs.put.Reads as put-reads
 use Rattle.intersect_many.proofs.put_rest.Reads as put-rest-reads
 use Rattle.intersect_many.proofs.right_set.Reads as right-set-reads
 use Rattle.intersect_many.proofs.with_ours.Reads as with-ours-reads
 use Rattle.intersect_many.proofs.with_theirs.Reads as with-theirs-reads
 use Rattle.item_check.proofs.set_at.Reads as set-at-reads
-use Rattle.keyless.proofs.piece_item.Reads as piece-item-reads
 
 inside : (i j m n : ℕ) → ltb i m && ltb j n ≡ true → (i < m) × (j < n)
 inside i j m n e = go (ltb i m) (ltb j n) refl refl e
@@ -88,76 +86,68 @@ how-they-stand-requires c κs = search needs
 enum-told : tie.Need-enum-told Inv-loop μ-loop
 enum-told c = search needs
 
-piece-item-requires : tie.Need-piece-item-requires Inv-loop μ-loop
-piece-item-requires c κs = search needs
-
-put-requires : tie.Need-put-requires Inv-loop μ-loop
-put-requires c κs = omega (arith, c .before .before .before .before .before .before .before .before .loop .inv, test (c .before .before .before .before .before .before .before))
+put-set-requires : tie.Need-put-set-requires Inv-loop μ-loop
+put-set-requires c κs = omega (arith, c .before .before .before .before .before .before .before .loop .inv, test (c .before .before .before .before .before .before))
 
 with-ours-requires : tie.Need-with-ours-requires Inv-loop μ-loop
 with-ours-requires c κs = search needs
 
 add-i : tie.Need-add-i Inv-loop μ-loop
-add-i c = omega (arith, test (c .before .before .before .before .before .before .before .before .before .before .before))
+add-i c = omega (arith, test (c .before .before .before .before .before .before .before .before .before .before))
 
 set-at-requires-5 : tie.Need-set-at-requires-5 Inv-loop μ-loop
 set-at-requires-5 c κs = search needs
 
 loop-less : tie.Need-loop-less Inv-loop μ-loop
-loop-less c = omega (arith, test (c .before .before .before .before .before .before .before .before .before .before .before .before))
+loop-less c = omega (arith, test (c .before .before .before .before .before .before .before .before .before .before .before))
 
 loop-again : tie.Need-loop-again Inv-loop μ-loop
 loop-again c =
-    let inside = c .before .before .before .before .before .before .before .before .before .before .before .before in
+    let told = c .before .before .before .before .before .before in
+    let stand = told .before .before in
+    let inside = stand .before .before .before in
     let at = inside .before in
     let start = at .before .before .before .before .before .before .before .before .before in
     let both = test inside in
-    let a = c .before .before .before .before .before .before .before .before .before .before .before .set-at3 in
-    let b = c .before .before .before .before .before .before .before .before .before .before .set-at4 in
-    let stand = c .before .before .before .before .before .before .before .before .before .how-they-stand in
+    let a = stand .before .before .set-at3 in
+    let b = stand .before .set-at4 in
     let with = c .before .with-ours .ensures in
-    let put = c .before .before .before .before .put .ensures in
-    let item = c .before .before .before .before .before .piece-item .ensures in
     swept-before _ _ _ _ _ _ _ _ _ _ _ _ _ _ (at .loop .inv) (both .0) (both .1) _ _ (a .ensures) (b .ensures) _ _ _
-    (stands-before (start .args .pool .now) (a .result) (b .result) (sym (stand .ensures) ∙ c .before .before .before .before .before .before .before .enum-told .given .1))
-    (with .0) (with .2) (rw (with .1, ← item) put) (c .set-at5 .ensures)
+    (stands-before (start .args .pool .now) (a .result) (b .result) (sym (stand .how-they-stand .ensures) ∙ told .enum-told .given .1))
+    (with .0) (with .2) (rw (with .1) (c .before .before .before .before .put-set .ensures)) (c .set-at5 .ensures)
 
 enum-told-2 : tie.Need-enum-told-2 Inv-loop μ-loop
 enum-told-2 c = search needs
 
-piece-item-requires-2 : tie.Need-piece-item-requires-2 Inv-loop μ-loop
-piece-item-requires-2 c κs = search needs
-
-put-requires-2 : tie.Need-put-requires-2 Inv-loop μ-loop
-put-requires-2 c κs = omega (arith, c .before .before .before .before .before .before .before .before .loop .inv, test (c .before .before .before .before .before .before .before))
+put-set-requires-2 : tie.Need-put-set-requires-2 Inv-loop μ-loop
+put-set-requires-2 c κs = omega (arith, c .before .before .before .before .before .before .before .loop .inv, test (c .before .before .before .before .before .before))
 
 with-theirs-requires : tie.Need-with-theirs-requires Inv-loop μ-loop
 with-theirs-requires c κs = search needs
 
 add-j : tie.Need-add-j Inv-loop μ-loop
-add-j c = omega (arith, test (c .before .before .before .before .before .before .before .before .before .before .before))
+add-j c = omega (arith, test (c .before .before .before .before .before .before .before .before .before .before))
 
 set-at-requires-6 : tie.Need-set-at-requires-6 Inv-loop μ-loop
 set-at-requires-6 c κs = search needs
 
 loop-less-2 : tie.Need-loop-less-2 Inv-loop μ-loop
-loop-less-2 c = omega (arith, test (c .before .before .before .before .before .before .before .before .before .before .before .before))
+loop-less-2 c = omega (arith, test (c .before .before .before .before .before .before .before .before .before .before .before))
 
 loop-again-2 : tie.Need-loop-again-2 Inv-loop μ-loop
 loop-again-2 c =
-    let inside = c .before .before .before .before .before .before .before .before .before .before .before .before in
+    let told = c .before .before .before .before .before .before in
+    let stand = told .before .before in
+    let inside = stand .before .before .before in
     let at = inside .before in
     let start = at .before .before .before .before .before .before .before .before .before in
     let both = test inside in
-    let a = c .before .before .before .before .before .before .before .before .before .before .before .set-at3 in
-    let b = c .before .before .before .before .before .before .before .before .before .before .set-at4 in
-    let stand = c .before .before .before .before .before .before .before .before .before .how-they-stand in
+    let a = stand .before .before .set-at3 in
+    let b = stand .before .set-at4 in
     let with = c .before .with-theirs .ensures in
-    let put = c .before .before .before .before .put2 .ensures in
-    let item = c .before .before .before .before .before .piece-item2 .ensures in
     swept-after _ _ _ _ _ _ _ _ _ _ _ _ _ _ (at .loop .inv) (both .0) (both .1) _ _ (a .ensures) (b .ensures) _ _ _
-    (stands-after (start .args .pool .now) (a .result) (b .result) (sym (stand .ensures) ∙ c .before .before .before .before .before .before .before .enum-told2 .given .1))
-    (with .0) (with .1) (rw (with .2, ← item) put) (c .set-at6 .ensures)
+    (stands-after (start .args .pool .now) (a .result) (b .result) (sym (stand .how-they-stand .ensures) ∙ told .enum-told2 .given .1))
+    (with .0) (with .1) (rw (with .2) (c .before .before .before .before .put-set2 .ensures)) (c .set-at6 .ensures)
 
 enum-known-ends : tie.Need-enum-known-ends Inv-loop μ-loop
 enum-known-ends c = search needs
@@ -178,7 +168,13 @@ enum-told-3 : tie.Need-enum-told-3 Inv-loop μ-loop
 enum-told-3 c = search needs
 
 right-set-requires : tie.Need-right-set-requires Inv-loop μ-loop
-right-set-requires c κs = search needs
+right-set-requires c κs =
+    let ends = c .before .before .before .before .before .before .before .before .before .before .before .before .before in
+    let stand = ends .before .before in
+    let start = stand .before .before .before .before .before .before .before .before .before .before .before .before .before in
+    let a = stand .before .before .set-at3 in
+    let b = stand .before .set-at4 in
+    stands-meets (start .args .pool .now) (a .result) (b .result) _ (sym (stand .how-they-stand .ensures) ∙ ends .ends .given .1) .1
 
 add-i-2 : tie.Need-add-i-2 Inv-loop μ-loop
 add-i-2 c = omega (arith, test (c .before .before .before .before .before .before .before .before .before .before .before .before .before .before .before .before .before .before .before), c .before .before .before .before .before .before .before .before .before .before .before .before .before .before .before .before .before .before .before .before .loop .inv .our-size)
@@ -208,7 +204,13 @@ enum-told-4 : tie.Need-enum-told-4 Inv-loop μ-loop
 enum-told-4 c = search needs
 
 right-set-requires-2 : tie.Need-right-set-requires-2 Inv-loop μ-loop
-right-set-requires-2 c κs = search needs
+right-set-requires-2 c κs =
+    let ends = c .before .before .before .before .before .before .before .before .before .before .before .before .before in
+    let stand = ends .before .before in
+    let start = stand .before .before .before .before .before .before .before .before .before .before .before .before .before in
+    let a = stand .before .before .set-at3 in
+    let b = stand .before .set-at4 in
+    stands-meets (start .args .pool .now) (a .result) (b .result) _ (sym (stand .how-they-stand .ensures) ∙ ends .ends .given .1) .2
 
 add-j-2 : tie.Need-add-j-2 Inv-loop μ-loop
 add-j-2 c = omega (arith, test (c .before .before .before .before .before .before .before .before .before .before .before .before .before .before .before .before .before .before .before), c .before .before .before .before .before .before .before .before .before .before .before .before .before .before .before .before .before .before .before .before .loop .inv .their-size)
@@ -315,16 +317,14 @@ sweep-spec =
     set-at-requires-4
     how-they-stand-requires
     enum-told
-    piece-item-requires
-    put-requires
+    put-set-requires
     with-ours-requires
     add-i
     set-at-requires-5
     loop-less
     loop-again
     enum-told-2
-    piece-item-requires-2
-    put-requires-2
+    put-set-requires-2
     with-theirs-requires
     add-j
     set-at-requires-6

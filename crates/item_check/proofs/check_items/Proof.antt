@@ -1,9 +1,12 @@
 -- `item_check::check_items` meets its contract: the invariant: the verdict of the list is that of the items left at `i`. The measure is
 -- how many are left. Assumes nothing.
 use Prim.Native.Nat.{_≤_, _-_}
-use mathlib.Core.Path.{_≡_, sym, _∙_}
+use mathlib.Core.Path.{_≡_, refl, sym, _∙_}
+use mathlib.Core.Bool.{true, false}
 use native.Mathlib.Nat.{sub-zero}
+use lib.Dec.{eqb}
 use borrow.Author.Needs.{needs}
+use borrow.Author.Tests.{eqb-true, eqb-false, not-true, not-false}
 use Rattle.query_item.specs.Items.{itemsFrom}
 use Rattle.item_check.specs.Checks.{uprightFault, firstBad}
 use Rattle.item_check.proofs.Scans.{bad-end, bad-here, bad-next}
@@ -22,17 +25,18 @@ loop-holds c = (search needs, rw sub-zero)
 
 returns : tie.Need-returns Inv-loop μ-loop
 returns c =
-    let turn = c .before .before .before in
+    let sound = c .before .before .before .before in
+    let told : eqb (c .before .upright-fault .result) 0 ≡ false = rw (c .before .upright-fault .ensures, c .before .before .item-at .ensures, ← sound .sound-at .ensures) (not-true _ (c .before .before .before .if1 .taken)) in
     c .refuse .ensures
-    ∙ sym (turn .before .before .loop .inv .1
-    ∙ bad-here _ _ _ _ _ (turn .before .loop-test .taken) (c .before .before .upright-fault .ensures ∙ rw (turn .item-at .ensures)) (c .before .if1 .taken))
+    ∙ sym (sound .before .before .loop .inv .1
+    ∙ bad-here _ _ _ _ _ (sound .before .loop-test .taken) (c .before .upright-fault .ensures ∙ rw (c .before .before .item-at .ensures)) (eqb-false _ _ told))
 
 loop-again : tie.Need-loop-again Inv-loop μ-loop
 loop-again c =
-    let turn = c .before .before in (
+    let turn = c .before .before in
+    let told = eqb-true _ _ (sym (c .before .sound-at .ensures) ∙ not-false _ (c .if1 .left)) in (
       search needs,
-      turn .before .before .loop .inv .1
-          ∙ bad-next _ _ _ _ _ (turn .before .loop-test .taken) (c .before .upright-fault .ensures ∙ rw (turn .item-at .ensures)) (c .if1 .left),
+      turn .before .loop .inv .1 ∙ bad-next _ _ _ _ _ (turn .loop-test .taken) refl told,
     )
 
 returns-2 : tie.Need-returns-2 Inv-loop μ-loop
@@ -45,6 +49,7 @@ check-items-spec =
     Inv-loop
     μ-loop
     loop-holds
+    (λ c κs. search needs)
     (λ c κs. search needs)
     (λ c κs. search needs)
     (λ c κs. search needs)

@@ -22,18 +22,18 @@ loop-holds c = rw (c .set-at .ensures) (strict-start _ _ _ _)
 
 returns : tie.Need-returns Inv-loop μ-loop
 returns c =
-    let turn = c .before .before .before .before in
+    let turn = c .before .before .before in
     c .refuse .ensures
     ∙ sym (turn .before .before .loop .inv
     ∙ break-here _ _ _ _ _ _ (turn .before .loop-test .taken)
-    (rw (← turn .set-at2 .ensures, ← c .before .before .before .compare-in .ensures, ← c .before .before .is-less .ensures) (not-true _ (c .before .if1 .taken))))
+    (rw (← turn .set-at2 .ensures, ← c .before .before .below-in .ensures) (not-true _ (c .before .if1 .taken))))
 
 loop-again : tie.Need-loop-again Inv-loop μ-loop
 loop-again c =
-    let turn = c .before .before .before in
+    let turn = c .before .before in
     turn .before .before .loop .inv
     ∙ break-next _ _ _ _ _ _ (turn .before .loop-test .taken)
-    (rw (← turn .set-at2 .ensures, ← c .before .before .compare-in .ensures, ← c .before .is-less .ensures) (not-false _ (c .if1 .left)))
+    (rw (← turn .set-at2 .ensures, ← c .before .below-in .ensures) (not-false _ (c .if1 .left)))
     ∙ rw (turn .set-at2 .ensures)
 
 returns-2 : tie.Need-returns-2 Inv-loop μ-loop
@@ -47,7 +47,6 @@ check-strict-spec =
     μ-loop
     (λ c κs. search needs)
     loop-holds
-    (λ c κs. search needs)
     (λ c κs. search needs)
     (λ c κs. search needs)
     (λ c κs. search needs)

@@ -1,11 +1,10 @@
 -- `item_check::is_upright` meets its contract: the test of the order of both boundaries. Assumes nothing.
-use mathlib.Core.Path.{_∙_}
 use borrow.Author.Needs.{needs}
 use Rattle.item_check.proofs.is_upright.Statement.{statement}
 use Rattle.item_check.proofs.is_upright.Tie as tie
 
 returns : tie.Need-returns
-returns c = c .is-at-most .ensures ∙ rw (c .before .compare-in .ensures)
+returns c = c .at-most-in .ensures
 
 pub is-upright-spec : {M : Type 1} → statement M
-is-upright-spec = tie.close (tie.spec (λ c κs. search needs) (λ c κs. search needs) returns)
+is-upright-spec = tie.close (tie.spec (λ c κs. search needs) returns)

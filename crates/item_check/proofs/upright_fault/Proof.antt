@@ -1,24 +1,8 @@
 -- `item_check::upright_fault` meets its contract: each return is the first test that holds. Assumes nothing.
-use Prim.Native.Nat.{ℕ}
-use mathlib.Core.Path.{_≡_, _∙_}
-use mathlib.Core.Bool.{true}
-use mathlib.Core.List.{List}
-use native.Mathlib.Nat.{le-refl}
 use borrow.Author.Needs.{needs}
-use borrow.Author.Tests.{le-leb}
-use Rattle.key_order.proofs.Line.{size}
-use Rattle.query_item.specs.declared.ItemWords.{ItemWords}
-use Rattle.query_item.specs.declared.RangeSetItem.the-variants.{Inclusive}
-use Rattle.query_item.specs.Boundaries.{rangeOf, upright}
-use Rattle.query_item.proofs.Laws.{rankIn, at-most-rank}
+use Rattle.item_check.proofs.Faults.{key-upright}
 use Rattle.item_check.proofs.upright_fault.Statement.{statement}
 use Rattle.item_check.proofs.upright_fault.Tie as tie
-
--- a key starts where it ends
-key-upright : (pool : List ℕ) (it : ItemWords) → it .code ≡ 0 → upright pool (rangeOf it) ≡ true
-key-upright pool it e =
-    let n = size pool in
-    rw e (at-most-rank pool n (le-refl n) (Inclusive (it .start)) (Inclusive (it .start)) ∙ le-leb _ _ (le-refl (rankIn pool n (le-refl n) (Inclusive (it .start)))))
 
 returns : tie.Need-returns
 returns c = rw (← c .before .is-malformed .ensures, c .if1 .taken)

@@ -1,23 +1,11 @@
--- `query_item::pooled::compare_in` meets its contract: the order of the kinds and keys of both boundaries. Assumes nothing.
-use mathlib.Core.Path.{_∙_}
+-- `query_item::pooled::compare_in` meets its contract: the order of the number of the answer is the answer. Assumes nothing.
 use borrow.Author.Needs.{needs}
+use Rattle.key_order.proofs.Numbers.{order-number}
 use Rattle.query_item.proofs.pooled.compare_in.Statement.{statement}
 use Rattle.query_item.proofs.pooled.compare_in.Tie as tie
 
 returns : tie.Need-returns
-returns c =
-    c .compare-boundaries .ensures
-    ∙ rw (c .before .key-bytes2 .ensures, c .before .before .key-of2 .ensures, c .before .before .before .kind-of2 .ensures, c .before .before .before .before .key-bytes .ensures, c .before .before .before .before .before .key-of .ensures, c .before .before .before .before .before .before .kind-of .ensures)
+returns c = rw (c .order-of .ensures, c .before .stand-in .ensures) (order-number _)
 
 pub compare-in-spec : {M : Type 1} → statement M
-compare-in-spec =
-    tie.close
-    (tie.spec
-    (λ c κs. search needs)
-    (λ c κs. search needs)
-    (λ c κs. search needs)
-    (λ c κs. search needs)
-    (λ c κs. search needs)
-    (λ c κs. search needs)
-    (λ c κs. search needs)
-    returns)
+compare-in-spec = tie.close (tie.spec (λ c κs. search needs) (λ c κs. search needs) returns)
