@@ -1,7 +1,8 @@
 // Module 4 of document 01: the three lists of two lists of items, without what holds no key (02 §2.1). The crate `intersect` has the pair.
 // Definitions: specs/Lists.antt (specs/Sweep.antt is what the pass goes by). Laws: proofs/Demands.antt, which speak by specs/Demand.antt.
 //
-// One pass over both lists with two indexes. What is left of our item and of theirs, at the indexes, is kept beside them.
+// One pass over both lists with two indexes. Our item and theirs, at the indexes, and what is left of them are kept beside these: an item is read
+// when its index moves.
 ghost use mathlib.Core.Path.{_≡_};
 ghost use mathlib.Core.Bool.{true, false, cond};
 ghost use mathlib.Core.List.{[]};
@@ -276,21 +277,23 @@ fn sweep(
     };
     let mut i: usize = 0;
     let mut j: usize = 0;
-    let mut x = set_at(ours, 0);
-    let mut y = set_at(theirs, 0);
+    let mut a = set_at(ours, 0);
+    let mut b = set_at(theirs, 0);
+    let mut x = a;
+    let mut y = b;
     while (i < our_count) & (j < their_count) {
-        let a = set_at(ours, i);
-        let b = set_at(theirs, j);
         match how_they_stand(pool, a, b) {
             Stand::Before => {
                 n = with_ours(n, put_set(pool, mine, n.ours, x));
                 i += 1;
-                x = set_at(ours, i);
+                a = set_at(ours, i);
+                x = a;
             }
             Stand::After => {
                 n = with_theirs(n, put_set(pool, yours, n.theirs, y));
                 j += 1;
-                y = set_at(theirs, j);
+                b = set_at(theirs, j);
+                y = b;
             }
             Stand::Meets(ends) => {
                 n = emit(pool, ends, a, b, x, y, both, mine, yours, n);
@@ -298,18 +301,22 @@ fn sweep(
                     Ordering::Less => {
                         y = right_set(pool, b, y, a);
                         i += 1;
-                        x = set_at(ours, i);
+                        a = set_at(ours, i);
+                        x = a;
                     }
                     Ordering::Greater => {
                         x = right_set(pool, a, x, b);
                         j += 1;
-                        y = set_at(theirs, j);
+                        b = set_at(theirs, j);
+                        y = b;
                     }
                     Ordering::Equal => {
                         i += 1;
                         j += 1;
-                        x = set_at(ours, i);
-                        y = set_at(theirs, j);
+                        a = set_at(ours, i);
+                        b = set_at(theirs, j);
+                        x = a;
+                        y = b;
                     }
                 }
             }
