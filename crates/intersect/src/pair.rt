@@ -121,7 +121,7 @@ pub fn overlap_by(starts: Ordering, ends: Ordering, ours: RangeSet, theirs: Rang
     }
 }
 
-// Part by part: which of two whole boundaries it is would be a matter of memory.
+// Part by part, so that numbers are picked and no place in memory.
 fn smaller_of(o: Ordering, x: RangeSetItem, y: RangeSetItem) -> RangeSetItem
     ensures { λ r. ⌜ r ≡ smaller o x y ⌝ }
 {
@@ -164,8 +164,8 @@ fn left_over(pool: &[u8], a: RangeSet, b: RangeSet) -> MaybeSet
     left_part(pool, a, b)
 }
 
-// inner: what of a starts below b, up to b's start.
-pub fn left_part(pool: &[u8], a: RangeSet, b: RangeSet) -> MaybeSet
+// What of a starts below b, up to b's start.
+fn left_part(pool: &[u8], a: RangeSet, b: RangeSet) -> MaybeSet
     ensures { λ r. ⌜ asSets r ≡ leftPart (now (pool .entry)) a b ⌝ }
 {
     let start = a.start;

@@ -128,7 +128,7 @@ fn sound_at(pool: &[u8], words: &[u32], i: usize) -> bool
     )
 }
 
-// The same of six numbers: what stays in registers is not waited for, as a key is that was just written word by word and is read whole.
+// The same of six numbers, which stay in registers. A key that was just written word by word, and is read as a whole, has to be waited for.
 fn is_sound(pool: &[u8], code: u32, wrapper: u32, i: u32, m: u32, j: u32, n: u32) -> bool
     ensures { λ r. ⌜ r ≡ eqb (uprightFault (now (pool .entry)) (itemWords code wrapper (keyAt i m) (keyAt j n))) 0 ⌝ }
 {
