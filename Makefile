@@ -158,7 +158,7 @@ link-rust: lib
 	printf '' | diff - target/only_theirs.csv
 
 # Both sides timed in one run, some five minutes; the tables go to docs/BENCHMARKS.md, and the chart to docs/benchmarks.svg. EARLIER names a
-# libfernsponge.a that was kept from before a change: the three lists are then timed beside it too.
+# libfernsponge.a that was kept from before a change: the three lists and two keys are then timed beside it too.
 bench: lib
 	@[ -z "$(EARLIER)" ] || tools/earlier "$(EARLIER)"
 	GROVEDB_SRC="$(GROVEDB_SRC)" EARLIER_LIBS="$(if $(EARLIER),target/earlier)" $(CARGO) run --quiet --release --offline --manifest-path compare/Cargo.toml --bin bench -- "$(CURDIR)/docs"

@@ -598,6 +598,11 @@ fn targets(measured: &Measured) -> Vec<Target> {
         ),
     ];
     targets.retain(|target| !target.of.is_empty());
+    let keys = |target: &Target| target.text.starts_with("two keys of 200 bytes");
+    assert!(
+        targets.iter().any(keys),
+        "the rows of 200 bytes have other names"
+    );
     targets
 }
 

@@ -16,7 +16,7 @@ pub const COMPARES: Option<[Compare; 2]> = None;
 #[cfg(earlier)]
 pub const CALLS: Option<[Call; 2]> = Some([ours, earlier]);
 #[cfg(earlier)]
-pub const COMPARES: Option<[Compare; 2]> = Some([our_compare, their_compare]);
+pub const COMPARES: Option<[Compare; 2]> = Some([compare_ours, compare_earlier]);
 
 #[cfg(earlier)]
 macro_rules! call {
@@ -86,6 +86,6 @@ macro_rules! compare {
 }
 
 #[cfg(earlier)]
-compare!(our_compare, ours_compare);
+compare!(compare_ours, ours_compare);
 #[cfg(earlier)]
-compare!(their_compare, earlier_compare);
+compare!(compare_earlier, earlier_compare);

@@ -121,7 +121,7 @@ pub fn overlap_by(starts: Ordering, ends: Ordering, ours: RangeSet, theirs: Rang
     }
 }
 
-// Part by part, so that numbers are picked and no place in memory.
+// Part by part: a choice between two whole boundaries would go through memory.
 fn smaller_of(o: Ordering, x: RangeSetItem, y: RangeSetItem) -> RangeSetItem
     ensures { λ r. ⌜ r ≡ smaller o x y ⌝ }
 {

@@ -2,7 +2,7 @@
 -- of 1, 2 and 5, has a bad key. Assumes nothing.
 use Prim.Native.Nat.{ℕ, _+_, _≤_}
 use mathlib.Core.Path.{_≡_, refl, sym, ap, _∙_}
-use mathlib.Core.Bool.{Bool, true, false, cond, not, _&&_, _||_, true≢false, false≢true}
+use mathlib.Core.Bool.{Bool, true, false, cond, not, _&&_, _||_, true≢false}
 use mathlib.Core.List.{List}
 use native.Mathlib.Omega.{arith}
 use lib.ListN.{length, drop, length-take, length-drop}
@@ -12,14 +12,11 @@ use Rattle.query_item.specs.declared.KeyAt.{KeyAt}
 use Rattle.query_item.specs.declared.ItemWords.{ItemWords}
 use Rattle.query_item.specs.Items.{bytesOf}
 use Rattle.item_check.specs.Checks.{mostKey, hasStart, hasEnd, written, malformed, keyOut, outside, wrapped}
+use Rattle.item_check.proofs.Strict.{both-true}
 use Rattle.item_check.proofs.Laws.{or-false, formed-parts}
 use Rattle.position_key.specs.Keys.{keySize}
 use Rattle.position_query.specs.Covered.{noPosition, badKey, positionFault}
 use Rattle.position_query.specs.Inner.{isGood, isClean}
-
-both-true : (p q : Bool) → p && q ≡ true → (p ≡ true) × (q ≡ true)
-both-true true q e = (refl, e)
-both-true false q e = absurd (false≢true e)
 
 module _ (pool : List ℕ) where
   -- ---- one key

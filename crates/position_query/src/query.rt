@@ -41,7 +41,7 @@ use query_item::KeyAt;
 use query_item::pooled::key_bytes;
 
 // The bytes of a position's key.
-const KEY_SIZE: u32 = 8;
+const POSITION_KEY_LENGTH: u32 = 8;
 
 struct PositionRange {
     start: u64,
@@ -121,7 +121,7 @@ fn is_good(pool: &[u8], has: bool, key: KeyAt) -> bool
     ensures { λ r. ⌜ r ≡ isGood (now (pool .entry)) has key ⌝ }
 {
     if has {
-        return (key.length == KEY_SIZE) & !is_out(pool, key);
+        return (key.length == POSITION_KEY_LENGTH) & !is_out(pool, key);
     }
     !is_written(key)
 }
@@ -129,7 +129,7 @@ fn is_good(pool: &[u8], has: bool, key: KeyAt) -> bool
 // ---- the range of an item
 
 // The first position that the start of an item of a code lets in: of RangeFull, RangeTo and RangeToInclusive the first of all; past its key of the
-// three that start after one. A code that the table has not is read as RangeFull (01 m6.2, form.7).
+// three that start after one. A code that the table does not have is read as RangeFull.
 fn first(pool: &[u8], code: u32, a: KeyAt) -> PositionKey
     ensures { λ r. ⌜ positionOf r ≡ firstBy code (positionAnswer (bytesOf (now (pool .entry)) a)) ⌝ }
 {
@@ -159,7 +159,8 @@ fn past(pool: &[u8], code: u32, a: KeyAt, b: KeyAt) -> PositionKey
     be_u64(key_bytes(pool, b))
 }
 
-// The position after a key's. The last u64 stays: no count is above it, so that it is covered by nothing.
+// The position after a key's; what the key reads as is taken apart at once (01 m6.2, form.7). The last u64 stays: no count is above it, so that it is
+// covered by nothing.
 fn key_after(pool: &[u8], key: KeyAt) -> PositionKey
     ensures { λ r. ⌜ positionOf r ≡ afterOf (positionAnswer (bytesOf (now (pool .entry)) key)) ⌝ }
 {

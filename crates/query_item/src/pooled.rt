@@ -33,22 +33,22 @@ pub fn least(x: usize, y: usize) -> usize
     if x < y { x } else { y }
 }
 
-// inner: how two keys of a pool stand, as a number.
-pub fn stand_keys(pool: &[u8], a: KeyAt, b: KeyAt) -> u64
+// How two keys of a pool stand, as a number.
+fn stand_keys(pool: &[u8], a: KeyAt, b: KeyAt) -> u64
     ensures { λ r. ⌜ r ≡ orderNumber (compareKeys (bytesOf (now (pool .entry)) a) (bytesOf (now (pool .entry)) b)) ⌝ }
 {
     stand(key_bytes(pool, a), key_bytes(pool, b))
 }
 
-// inner: the same as an order.
+// inner: how two keys of a pool stand.
 pub fn compare_keys(pool: &[u8], a: KeyAt, b: KeyAt) -> Ordering
     ensures { λ r. ⌜ r ≡ compareKeys (bytesOf (now (pool .entry)) a) (bytesOf (now (pool .entry)) b) ⌝ }
 {
     order_of(stand_keys(pool, a, b))
 }
 
-// inner: how two boundaries of a pool stand, as a number. Bytes are looked at only where both have keys.
-pub fn stand_in(pool: &[u8], x: RangeSetItem, y: RangeSetItem) -> u64
+// How two boundaries of a pool stand, as a number. Bytes are looked at only where both have keys.
+fn stand_in(pool: &[u8], x: RangeSetItem, y: RangeSetItem) -> u64
     ensures { λ r. ⌜ r ≡ orderNumber (compareIn (now (pool .entry)) x y) ⌝ }
 {
     let p = rung_of(kind_of(x));
@@ -59,7 +59,7 @@ pub fn stand_in(pool: &[u8], x: RangeSetItem, y: RangeSetItem) -> u64
     stand_numbers(p, q)
 }
 
-// inner: the same as an order.
+// inner: how two boundaries of a pool stand.
 pub fn compare_in(pool: &[u8], x: RangeSetItem, y: RangeSetItem) -> Ordering
     ensures { λ r. ⌜ r ≡ compareIn (now (pool .entry)) x y ⌝ }
 {

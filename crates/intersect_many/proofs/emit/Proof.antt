@@ -1,7 +1,7 @@
 -- `intersect_many::emit` meets its contract: three items at most, each written to its list. What of ours and of theirs starts below the other is
 -- known by the starts of the whole items. Assumes nothing.
 use mathlib.Core.Path.{_≡_, sym, ap, _∙_}
-use mathlib.Core.Bool.{cond, not}
+use mathlib.Core.Bool.{not}
 use native.Mathlib.Omega.{arith}
 use borrow.Author.Needs.{needs}
 use Rattle.key_order.specs.Order.{isLess, isAtMost}

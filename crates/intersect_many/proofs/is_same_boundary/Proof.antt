@@ -1,5 +1,5 @@
 -- `intersect_many::is_same_boundary` meets its contract: of one kind and one key there is one boundary. Assumes nothing.
-use mathlib.Core.Path.{_≡_, sym, ap, ap₂, _∙_}
+use mathlib.Core.Path.{sym, ap, ap₂, _∙_}
 use borrow.Author.Needs.{needs}
 use borrow.Author.Tests.{eqb-true}
 use Rattle.item_check.proofs.Strict.{both-true}

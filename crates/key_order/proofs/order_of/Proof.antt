@@ -1,5 +1,4 @@
 -- `key_order::order_of` meets its contract: the two tests are those of the definition. Assumes nothing.
-use borrow.Author.Needs.{needs}
 use borrow.Author.Tests.{lt-ltb, le-ltb}
 use Rattle.key_order.proofs.order_of.Statement.{statement}
 use Rattle.key_order.proofs.order_of.Tie as tie

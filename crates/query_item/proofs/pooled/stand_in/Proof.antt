@@ -1,6 +1,6 @@
 -- `query_item::pooled::stand_in` meets its contract: between two that have keys the keys decide, then the rungs; else the rungs alone.
 -- Assumes nothing.
-use mathlib.Core.Path.{_≡_, ap, _∙_}
+use mathlib.Core.Path.{ap, _∙_}
 use borrow.Author.Needs.{needs}
 use Rattle.key_order.specs.Order.{compareNumbers, compareKeys, orderNumber}
 use Rattle.key_order.proofs.Numbers.{number-then}
