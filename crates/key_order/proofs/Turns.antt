@@ -99,7 +99,7 @@ module _ (a b : List ℕ) (i : ℕ) where
     ]
   ]
 
--- ---- places up to which the keys agree
+-- ---- places from which on the keys stand as they do as a whole
 
 pub reached-start : (a b : List ℕ) → Reached a b 0
 reached-start a b = record { first = omega arith; second = omega arith; order = refl }

@@ -5,7 +5,7 @@ use mathlib.Core.List.{List}
 use lib.ListN.{length, drop}
 use Rattle.key_order.specs.Order.{compareKeys}
 
--- 02 §3.1: a place that both keys have, and up to which they agree: what is left of them there decides
+-- 02 §3.1: a place that both keys have, and from which on they stand as they do as a whole. Whether they agree before it is not said
 pub record Reached (a b : List ℕ) (i : ℕ) : Type 0 where
   pub first : i ≤ length a
   pub second : i ≤ length b

@@ -85,7 +85,7 @@ fn least(m: usize, n: usize) -> usize
     if m < n { m } else { n }
 }
 
-// A place up to which the keys agree, by turns of a block.
+// A place from which on the keys stand as they do as a whole: behind the blocks that agree.
 fn same_blocks(a: &[u8], b: &[u8]) -> usize
     ensures { λ r. ⌜ Reached (now (a .entry)) (now (b .entry)) r ⌝ }
 {

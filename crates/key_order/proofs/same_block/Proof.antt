@@ -1,4 +1,4 @@
--- `key_order::same_block` meets its contract. The loop's invariant: where no bit has differed, a place up to which the keys agree at the start of
+-- `key_order::same_block` meets its contract. The loop's invariant: where no bit has differed, a place that decides (`Reached`) at the start of
 -- the block is one `k` bytes on. The measure is what is left of the block. Assumes nothing.
 use Prim.Native.Nat.{_+_, _-_, _≤_}
 use mathlib.Core.Path.{_≡_}

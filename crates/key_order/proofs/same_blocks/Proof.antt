@@ -1,4 +1,4 @@
--- `key_order::same_blocks` meets its contract. The loop's invariant: the keys agree up to `i`. The measure is what is left of the shorter one.
+-- `key_order::same_blocks` meets its contract. The loop's invariant: what is left at `i` decides (`Reached`). The measure is what is left of the shorter one.
 -- Assumes nothing.
 use Prim.Native.Nat.{_-_, min}
 use mathlib.Core.Path.{_≡_}

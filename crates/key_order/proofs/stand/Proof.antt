@@ -1,4 +1,4 @@
--- `key_order::stand` meets its contract. The loop's invariant: the keys agree up to `i`, so that their order is that of what is left of them there.
+-- `key_order::stand` meets its contract. The loop's invariant: the order of the keys is that of what is left of them at `i`.
 -- The measure is what is left of the shorter one. Assumes nothing.
 use Prim.Native.Nat.{_≤_, _-_, min}
 use mathlib.Core.Path.{_≡_, sym, ap, _∙_}
