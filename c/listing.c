@@ -49,19 +49,20 @@ int main(void)
     const uint8_t pool[] = {0x01, 0x05, 0x03};
     const uint32_t ours[] = {FERNSPONGE_RANGE, FERNSPONGE_PLAIN, 0, 1, 1, 1};
     const uint32_t theirs[] = {FERNSPONGE_KEY, FERNSPONGE_PLAIN, 2, 1, 0, 0};
-    uint32_t both[FERNSPONGE_ITEM_WORDS * ROOM], mine[FERNSPONGE_ITEM_WORDS * ROOM], yours[FERNSPONGE_ITEM_WORDS * ROOM];
+    uint32_t shared_out[FERNSPONGE_ITEM_WORDS * ROOM], ours_out[FERNSPONGE_ITEM_WORDS * ROOM];
+    uint32_t theirs_out[FERNSPONGE_ITEM_WORDS * ROOM];
     uint64_t counts[3];
 
-    uint64_t refusal = fernsponge_intersect_many(pool, sizeof pool, ours, FERNSPONGE_ITEM_WORDS, theirs, FERNSPONGE_ITEM_WORDS, both,
-                                                 FERNSPONGE_ITEM_WORDS * ROOM, mine, FERNSPONGE_ITEM_WORDS * ROOM, yours,
-                                                 FERNSPONGE_ITEM_WORDS * ROOM, counts);
+    uint64_t refusal = fernsponge_intersect_many(pool, sizeof pool, ours, FERNSPONGE_ITEM_WORDS, theirs, FERNSPONGE_ITEM_WORDS,
+                                                 shared_out, FERNSPONGE_ITEM_WORDS * ROOM, ours_out, FERNSPONGE_ITEM_WORDS * ROOM,
+                                                 theirs_out, FERNSPONGE_ITEM_WORDS * ROOM, counts);
     if (refusal != 0) {
         fprintf(stderr, "refused %u side %u index %llu\n", FERNSPONGE_NUMBER(refusal), FERNSPONGE_SIDE(refusal),
                 (unsigned long long)FERNSPONGE_INDEX(refusal));
         return 1;
     }
-    print_list("shared", pool, both, counts[0]);
-    print_list("ours", pool, mine, counts[1]);
-    print_list("theirs", pool, yours, counts[2]);
+    print_list("shared", pool, shared_out, counts[0]);
+    print_list("ours", pool, ours_out, counts[1]);
+    print_list("theirs", pool, theirs_out, counts[2]);
     return 0;
 }

@@ -50,6 +50,7 @@ extern "C" {
 #define FERNSPONGE_INDEX(refusal) ((uint64_t)(refusal) >> 16)
 
 #define FERNSPONGE_ITEM_WORDS 6
+#define FERNSPONGE_SET_WORDS 6
 #define FERNSPONGE_MAYBE_WORDS 7
 #define FERNSPONGE_EXAMPLES 16
 
@@ -107,12 +108,12 @@ uint64_t fernsponge_invert(uint32_t kind, bool is_start, uint32_t *inverted);
 
 /* ---- one item, upright or not */
 
-/* The two boundaries of an item, as six words: kinds of start and end, then offset and length of each key. */
+/* The two boundaries of an item, as six words of their own: kinds of start and end, then offset and length of each key. */
 uint64_t fernsponge_to_range_set(const uint8_t *pool, size_t pool_length, const uint32_t item[FERNSPONGE_ITEM_WORDS],
-                                 uint32_t range[FERNSPONGE_ITEM_WORDS]);
+                                 uint32_t range[FERNSPONGE_SET_WORDS]);
 
 /* The item of two boundaries, which may be missing. An unbounded one has no key: its words are 0. */
-uint64_t fernsponge_to_query_item(const uint8_t *pool, size_t pool_length, const uint32_t range[FERNSPONGE_ITEM_WORDS],
+uint64_t fernsponge_to_query_item(const uint8_t *pool, size_t pool_length, const uint32_t range[FERNSPONGE_SET_WORDS],
                                   uint32_t item[FERNSPONGE_MAYBE_WORDS]);
 
 /* Two numbers, 1 for yes: the item holds the key; the key sits on an exclusive bound. The key is lent bytes of any length. */
@@ -143,8 +144,9 @@ uint64_t fernsponge_intersect_items(const uint8_t *pool, size_t pool_length, con
  * counts has the items of each. As much room as both lists have together is always enough for each. Every item of them holds a key: what lies
  * below the empty key, and what lies between a key and that key with a zero byte appended, is in none of them. */
 uint64_t fernsponge_intersect_many(const uint8_t *pool, size_t pool_length, const uint32_t *ours, size_t ours_length,
-                                   const uint32_t *theirs, size_t theirs_length, uint32_t *both, size_t both_length, uint32_t *mine,
-                                   size_t mine_length, uint32_t *yours, size_t yours_length, uint64_t counts[3]);
+                                   const uint32_t *theirs, size_t theirs_length, uint32_t *shared_out, size_t shared_out_length,
+                                   uint32_t *ours_out, size_t ours_out_length, uint32_t *theirs_out, size_t theirs_out_length,
+                                   uint64_t counts[3]);
 
 /* Inserts an item into the list of the first count items of words; *after is how many there are then. Freed words up to the old count become 0,
  * later ones stay. Plain items may be inserted in any order: where there is room for each step, the lists are the same, item by item, by kind,

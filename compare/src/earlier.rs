@@ -25,7 +25,7 @@ macro_rules! call {
             pool: &[u8],
             ours: &[u32],
             theirs: &[u32],
-            [both, mine, yours]: [&mut [u32]; 3],
+            [shared_out, ours_out, theirs_out]: [&mut [u32]; 3],
             counts: &mut [u64; 3],
         ) -> u64 {
             extern "C" {
@@ -36,12 +36,12 @@ macro_rules! call {
                     ours_length: usize,
                     theirs: *const u32,
                     theirs_length: usize,
-                    both: *mut u32,
-                    both_length: usize,
-                    mine: *mut u32,
-                    mine_length: usize,
-                    yours: *mut u32,
-                    yours_length: usize,
+                    shared_out: *mut u32,
+                    shared_out_length: usize,
+                    ours_out: *mut u32,
+                    ours_out_length: usize,
+                    theirs_out: *mut u32,
+                    theirs_out_length: usize,
                     counts: &mut [u64; 3],
                 ) -> u64;
             }
@@ -54,12 +54,12 @@ macro_rules! call {
                     ours.len(),
                     theirs.as_ptr(),
                     theirs.len(),
-                    both.as_mut_ptr(),
-                    both.len(),
-                    mine.as_mut_ptr(),
-                    mine.len(),
-                    yours.as_mut_ptr(),
-                    yours.len(),
+                    shared_out.as_mut_ptr(),
+                    shared_out.len(),
+                    ours_out.as_mut_ptr(),
+                    ours_out.len(),
+                    theirs_out.as_mut_ptr(),
+                    theirs_out.len(),
                     counts,
                 )
             }

@@ -430,12 +430,12 @@ impl Sample {
     /// The Rust's ours-only is converted (D6), theirs-only is ours-only with sides exchanged (D8), and what holds no key is taken out (D19).
     /// The room is just enough, or some words more.
     fn many(&mut self, ours: &[Words], theirs: &[Words], pool: &[u8]) {
-        let [shared, mine, _] = rust_lists(ours, theirs, pool);
-        let [_, yours, _] = rust_lists(theirs, ours, pool);
+        let [shared_out, ours_out, _] = rust_lists(ours, theirs, pool);
+        let [_, theirs_out, _] = rust_lists(theirs, ours, pool);
         let lists = [
-            shared,
-            algebra::converted(&mine),
-            algebra::converted(&yours),
+            shared_out,
+            algebra::converted(&ours_out),
+            algebra::converted(&theirs_out),
         ]
         .map(|list| algebra::keyed(&list));
         let more = [0, 1, 6, 13][self.count as usize % 4];
@@ -677,9 +677,6 @@ const EXTRA_IN: u8 = 7;
 const MISSING_FROM_SPANS: u8 = 8;
 const DESCRIBE: u8 = 9;
 
-/// How many spans a call that is replayed has at most.
-const FEW_SPANS: usize = 32;
-
 const LAST: u64 = u64::MAX;
 
 fn positions() -> Sample {
@@ -826,7 +823,6 @@ impl Sample {
     }
 
     fn spanned(&mut self, words: &[u64], spans: &[Span]) {
-        assert!(spans.len() <= FEW_SPANS, "so many spans are replayed");
         let inputs = Bytes::new().numbers(words).numbers(&spans.concat());
         let report = position::missing_from_spans(&position::intervals(words), spans);
         self.case(MISSING_FROM_SPANS, inputs, answer().report(&report));

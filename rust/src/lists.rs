@@ -97,11 +97,11 @@ pub fn intersect_many_ordered(
         theirs: room(),
     };
     let Lists {
-        shared,
-        ours: mine,
-        theirs: yours,
+        shared: shared_out,
+        ours: ours_out,
+        theirs: theirs_out,
     } = &mut lists;
-    let counts = intersect_many_into(pool, ours, theirs, [shared, mine, yours])?;
+    let counts = intersect_many_into(pool, ours, theirs, [shared_out, ours_out, theirs_out])?;
     lists.shared.truncate(counts.shared);
     lists.ours.truncate(counts.ours);
     lists.theirs.truncate(counts.theirs);

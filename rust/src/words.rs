@@ -7,9 +7,11 @@
 
 use crate::{positions, Amount, Item, KeyAt};
 
-/// The six words of an item: code, wrapper, start offset, start length, end offset, end length. Two boundaries are six words too, the kinds
-/// of start and end in place of code and wrapper.
+/// The six words of an item: code, wrapper, start offset, start length, end offset, end length.
 pub type Words = [u32; 6];
+
+/// The six words of two boundaries: the kinds of start and end, then offset and length of each key.
+pub type SetWords = [u32; 6];
 
 /// An item or none: 1 and its six words, or seven times 0.
 pub type MaybeWords = [u32; 7];
@@ -78,7 +80,7 @@ pub struct Report {
 }
 
 mod c {
-    use super::{MaybeWords, Span, Words};
+    use super::{MaybeWords, SetWords, Span, Words};
 
     /// A part of a lent slice, as it is handed back.
     #[repr(C)]
@@ -119,13 +121,13 @@ mod c {
             pool: *const u8,
             pool_length: usize,
             item: &Words,
-            range: &mut Words,
+            range: &mut SetWords,
         ) -> u64;
 
         pub fn fernsponge_to_query_item(
             pool: *const u8,
             pool_length: usize,
-            range: &Words,
+            range: &SetWords,
             item: &mut MaybeWords,
         ) -> u64;
 
@@ -185,12 +187,12 @@ mod c {
             ours_length: usize,
             theirs: *const u32,
             theirs_length: usize,
-            both: *mut u32,
-            both_length: usize,
-            mine: *mut u32,
-            mine_length: usize,
-            yours: *mut u32,
-            yours_length: usize,
+            shared_out: *mut u32,
+            shared_out_length: usize,
+            ours_out: *mut u32,
+            ours_out_length: usize,
+            theirs_out: *mut u32,
+            theirs_out_length: usize,
             counts: &mut [u64; 3],
         ) -> u64;
 
@@ -441,13 +443,13 @@ pub fn invert(kind: u32, is_start: bool, inverted: &mut u32) -> u64 {
 }
 
 /// Writes the kinds of start and end, then offset and length of each key.
-pub fn to_range_set(pool: &[u8], item: &Words, range: &mut Words) -> u64 {
+pub fn to_range_set(pool: &[u8], item: &Words, range: &mut SetWords) -> u64 {
     // SAFETY: as above
     unsafe { c::fernsponge_to_range_set(pool.as_ptr(), pool.len(), item, range) }
 }
 
-/// Writes the item of two boundaries, which come as six words too.
-pub fn to_query_item(pool: &[u8], range: &Words, item: &mut MaybeWords) -> u64 {
+/// Writes the item of two boundaries.
+pub fn to_query_item(pool: &[u8], range: &SetWords, item: &mut MaybeWords) -> u64 {
     // SAFETY: as above
     unsafe { c::fernsponge_to_query_item(pool.as_ptr(), pool.len(), range, item) }
 }
@@ -542,7 +544,7 @@ pub fn intersect_many(
     pool: &[u8],
     ours: &[u32],
     theirs: &[u32],
-    [both, mine, yours]: [&mut [u32]; 3],
+    [shared_out, ours_out, theirs_out]: [&mut [u32]; 3],
     counts: &mut [u64; 3],
 ) -> u64 {
     // SAFETY: as in `compare_boundaries`, of each of the four that are lent for writing
@@ -554,12 +556,12 @@ pub fn intersect_many(
             ours.len(),
             theirs.as_ptr(),
             theirs.len(),
-            both.as_mut_ptr(),
-            both.len(),
-            mine.as_mut_ptr(),
-            mine.len(),
-            yours.as_mut_ptr(),
-            yours.len(),
+            shared_out.as_mut_ptr(),
+            shared_out.len(),
+            ours_out.as_mut_ptr(),
+            ours_out.len(),
+            theirs_out.as_mut_ptr(),
+            theirs_out.len(),
             counts,
         )
     }

@@ -189,12 +189,12 @@ fn a_pair_on_both_sides() {
 #[test]
 fn a_refused_call_changes_nothing() {
     let mark = Item::from_words([7; 6]);
-    let (mut both, mut mine, mut yours) = ([mark; 2], [mark; 1], [mark; 2]);
+    let (mut shared_out, mut ours_out, mut theirs_out) = ([mark; 2], [mark; 1], [mark; 2]);
     let refused = intersect_many_into(
         &pool(),
         &[Item::range(at(1), at(5))],
         &[Item::key(at(3))],
-        [&mut both, &mut mine, &mut yours],
+        [&mut shared_out, &mut ours_out, &mut theirs_out],
     );
     let refusal = refused.unwrap_err();
     assert_eq!(refusal.reason(), Reason::NoRoom);
@@ -202,7 +202,10 @@ fn a_refused_call_changes_nothing() {
         refusal.to_string(),
         "the result needs more room than was lent (refusal 6)"
     );
-    assert_eq!((both, mine, yours), ([mark; 2], [mark; 1], [mark; 2]));
+    assert_eq!(
+        (shared_out, ours_out, theirs_out),
+        ([mark; 2], [mark; 1], [mark; 2])
+    );
 
     let mut list = vec![Item::key(at(5)), Item::key(at(1))];
     let refusal = insert(&pool(), &mut list, Item::key(at(3))).unwrap_err();
@@ -216,12 +219,12 @@ fn a_refused_call_changes_nothing() {
 #[test]
 fn spare_items_stay() {
     let mark = Item::from_words([7; 6]);
-    let (mut both, mut mine, mut yours) = ([mark; 2], [mark; 3], [mark; 1]);
+    let (mut shared_out, mut ours_out, mut theirs_out) = ([mark; 2], [mark; 3], [mark; 1]);
     let counts = intersect_many_into(
         &pool(),
         &[Item::range(at(1), at(5))],
         &[Item::key(at(3))],
-        [&mut both, &mut mine, &mut yours],
+        [&mut shared_out, &mut ours_out, &mut theirs_out],
     );
     let expected = Counts {
         shared: 1,
@@ -229,8 +232,11 @@ fn spare_items_stay() {
         theirs: 0,
     };
     assert_eq!(counts, Ok(expected));
-    assert_eq!(shown(&mine[..2]), ["Range 01 03", "RangeAfterTo 03 05"]);
-    assert_eq!((both[1], mine[2], yours[0]), (mark, mark, mark));
+    assert_eq!(shown(&ours_out[..2]), ["Range 01 03", "RangeAfterTo 03 05"]);
+    assert_eq!(
+        (shared_out[1], ours_out[2], theirs_out[0]),
+        (mark, mark, mark)
+    );
 }
 
 #[test]

@@ -4,7 +4,7 @@
 //
 // A function marked "inner" is public only because other crates need it. It checks nothing: its definition covers every input.
 ghost use mathlib.Core.Path.{_≡_};
-ghost use Rattle.key_order.specs.Order.{thenBy, isLess, isAtMost, isEqual};
+ghost use Rattle.key_order.specs.Order.{thenBy};
 ghost use Rattle.key_order.specs.Boundary.{compareBoundaries};
 ghost use Rattle.boundary.specs.Kinds.{boundary, invertKind};
 ghost use Rattle.boundary.specs.Rungs.{rung, bounded};
@@ -80,38 +80,5 @@ fn then_by(first: Ordering, second: Ordering) -> Ordering
         Ordering::Less => Ordering::Less,
         Ordering::Equal => second,
         Ordering::Greater => Ordering::Greater,
-    }
-}
-
-// inner: whether an answer is Less.
-pub fn is_less(o: Ordering) -> bool
-    ensures { λ r. ⌜ r ≡ isLess o ⌝ }
-{
-    match o {
-        Ordering::Less => true,
-        Ordering::Equal => false,
-        Ordering::Greater => false,
-    }
-}
-
-// inner: whether it is not Greater.
-pub fn is_at_most(o: Ordering) -> bool
-    ensures { λ r. ⌜ r ≡ isAtMost o ⌝ }
-{
-    match o {
-        Ordering::Less => true,
-        Ordering::Equal => true,
-        Ordering::Greater => false,
-    }
-}
-
-// inner: whether it is Equal.
-pub fn is_equal(o: Ordering) -> bool
-    ensures { λ r. ⌜ r ≡ isEqual o ⌝ }
-{
-    match o {
-        Ordering::Less => false,
-        Ordering::Equal => true,
-        Ordering::Greater => false,
     }
 }

@@ -3,14 +3,15 @@
 use Prim.Native.Nat.{ℕ, _/_}
 use mathlib.Core.Path.{_≡_, refl, sym, ap, _∙_}
 use mathlib.Core.List.{List}
-use native.Mathlib.Omega.{arith}
 use lib.ListN.{length}
+use Rattle.key_order.proofs.Impossible.{impossible}
 use Rattle.intervals.specs.Intervals.{Interval}
 use Rattle.item_check.specs.declared.Refusal.{Refusal}
-use Rattle.item_check.specs.Checks.{Answer, answered, refused, accepted, refusedAs}
+use Rattle.item_check.specs.Checks.{Answer, answered, refusedAs, refusal, accepted}
 use Rattle.intersect_many.specs.declared.ManyCounts.{ManyCounts}
-use Rattle.item_lists.specs.Written.{plain, written}
-use Rattle.intersect_many.specs.Lists.{sharedItems, onlyItems, manyAnswer}
+use Rattle.intersect_many.specs.declared.ManyAnswer.{ManyAnswer}
+use Rattle.intersect_many.specs.declared.ManyAnswer.the-variants as many
+use Rattle.intersect_many.specs.Lists.{manyOf, manyAnswer, IntersectMany}
 use Rattle.fernsponge.specs.Answers.{refusalNumber, returned, left}
 use Rattle.position_given.specs.declared.Stored.{Stored}
 use Rattle.position_given.specs.Answers.{storedOf}
@@ -26,17 +27,20 @@ use Rattle.pool_collect.specs.declared.Collected.the-variants as collected
 use Rattle.pool_collect.specs.Collected.{collectAnswer, collectedOf, Collects}
 use Rattle.fernsponge.specs.Collecting.{GivesCollected}
 
-module _ {pool ours theirs both mine yours counts both′ mine′ yours′ : List ℕ}
-    (p : both′ ≡ written (manyAnswer pool ours theirs both mine yours) (plain (sharedItems pool ours theirs)) both)
-    (q : mine′ ≡ written (manyAnswer pool ours theirs both mine yours) (plain (onlyItems pool ours theirs)) mine)
-    (s : yours′ ≡ written (manyAnswer pool ours theirs both mine yours) (plain (onlyItems pool theirs ours)) yours) where
-  pub many-counted : {c : ManyCounts} → manyAnswer pool ours theirs both mine yours ≡ answered c
-      → GivesMany pool ours theirs both mine yours counts 0 both′ mine′ yours′ (countNumbers c)
-  many-counted e = record { number = rw e; shared = p; ours-only = q; theirs-only = s; counted = rw e }
+-- the three lists: how many items each has, or why not
+module _ {pool ours theirs sharedOut oursOut theirsOut counts sharedOut′ oursOut′ theirsOut′ : List ℕ} {told : ManyAnswer}
+    (F : IntersectMany pool ours theirs sharedOut oursOut theirsOut (manyOf told) sharedOut′ oursOut′ theirsOut′) where
+  pub many-counted : {c : ManyCounts} → told ≡ many.Counts c
+      → GivesMany pool ours theirs sharedOut oursOut theirsOut counts 0 sharedOut′ oursOut′ theirsOut′ (countNumbers c)
+  many-counted {c = c} e =
+      let is : manyAnswer pool ours theirs sharedOut oursOut theirsOut ≡ answered c = sym (F .told) ∙ ap manyOf e in
+      record { number = rw is; shared = F .shared; ours-only = F .ours-only; theirs-only = F .theirs-only; counted = rw is }
 
-  pub many-refused : {number side index r : ℕ} → manyAnswer pool ours theirs both mine yours ≡ refused number side index → r ≡ refusalNumber number side index
-      → GivesMany pool ours theirs both mine yours counts r both′ mine′ yours′ counts
-  many-refused e n = record { number = rw e n; shared = p; ours-only = q; theirs-only = s; counted = rw e }
+  pub many-refused : {refusal : Refusal} {r : ℕ} → told ≡ many.Refused refusal → r ≡ refusalNumber refusal
+      → GivesMany pool ours theirs sharedOut oursOut theirsOut counts r sharedOut′ oursOut′ theirsOut′ counts
+  many-refused {refusal = refusal} e n =
+      let is : manyAnswer pool ours theirs sharedOut oursOut theirsOut ≡ refusedAs refusal = sym (F .told) ∙ ap manyOf e in
+      record { number = rw is n; shared = F .shared; ours-only = F .ours-only; theirs-only = F .theirs-only; counted = rw is }
 
 -- the pairs of a query: what is built, or why not
 module _ {pool ws : List ℕ} {count : ℕ} {out out′ : List ℕ} where
@@ -49,13 +53,13 @@ module _ {pool ws : List ℕ} {count : ℕ} {out out′ : List ℕ} where
           → GivesPairs pool ws count out pairs total r out′ pairs′ total′
       go (answered a) F n p t = let v : buildVerdict pool ws count (length out) ≡ accepted = sym (F .verdict) in record {
         number = rw v n;
-        written = rw (v, p, t) F;
+        written = rw (v, p, t) (rw v at F);
         kept = rw v;
         totalKept = rw v;
       }
-      go (refused number side index) F n p t = let v : buildVerdict pool ws count (length out) ≡ refused number side index = sym (F .verdict) in record {
+      go (refusedAs r) F n p t = let v : buildVerdict pool ws count (length out) ≡ refusedAs r = sym (F .verdict) in record {
         number = rw v n;
-        written = rw v F;
+        written = rw v (rw v at F);
         kept = rw v p;
         totalKept = rw v t;
       }
@@ -73,10 +77,10 @@ module _ {ws P : List ℕ} {W : ℕ} {out out′ : List ℕ} where
     where
       go : (x : Answer (List Interval)) → answered n ≡ countIn x → (0 ≡ returned x) × (n ≡ left length x windows)
       go (answered L) q = (refl, cc)
-      go (refused m s i) q = let z : _≡_ {A = ℕ} 0 1 = cc in absurd (omega arith)
+      go (refusedAs r) q = impossible cc
 
   pub plan-refused : {told : Planned} {refusal : Refusal} {r windows : ℕ} → PlanRefetch ws P W out (plannedOf told) out′
-      → told ≡ planned.Refused refusal → r ≡ refusalNumber (refusal .number) (refusal .side) (refusal .index) → GivesPlan ws P W out windows r out′ windows
+      → told ≡ planned.Refused refusal → r ≡ refusalNumber refusal → GivesPlan ws P W out windows r out′ windows
   plan-refused {refusal = refusal} {r = r} {windows = windows} F e n =
       let is : refusedAs refusal ≡ countIn (planAnswer ws P W (length out / 2)) = sym (ap plannedOf e) ∙ F .answer in record {
         number = go (planAnswer ws P W (length out / 2)) is .0;
@@ -85,8 +89,8 @@ module _ {ws P : List ℕ} {W : ℕ} {out out′ : List ℕ} where
       }
     where
       go : (x : Answer (List Interval)) → refusedAs refusal ≡ countIn x → (r ≡ returned x) × (windows ≡ left length x windows)
-      go (answered L) q = let z : _≡_ {A = ℕ} 0 1 = cc in absurd (omega arith)
-      go (refused m s i) q = (n ∙ cc, refl)
+      go (answered L) q = impossible cc
+      go (refusedAs r) q = (n ∙ cc, refl)
 
 -- a pool collected: how many bytes, or why not
 module _ {pool fresh ours theirs fresh′ ours′ theirs′ : List ℕ} {told : Collected} (F : Collects pool fresh ours theirs (collectedOf told) fresh′ ours′ theirs′) where
@@ -96,7 +100,7 @@ module _ {pool fresh ours theirs fresh′ ours′ theirs′ : List ℕ} {told : 
       record { number = rw is; bytes = F .bytes; ours-words = F .ours-words; theirs-words = F .theirs-words; counted = rw is }
 
   pub collected-refused : {refusal : Refusal} {r used : ℕ} → told ≡ collected.Refused refusal
-      → r ≡ refusalNumber (refusal .number) (refusal .side) (refusal .index) → GivesCollected pool fresh ours theirs used r fresh′ ours′ theirs′ used
+      → r ≡ refusalNumber refusal → GivesCollected pool fresh ours theirs used r fresh′ ours′ theirs′ used
   collected-refused {refusal = refusal} e n =
       let is : collectAnswer pool fresh ours theirs ≡ refusedAs refusal = sym (F .answer) ∙ ap collectedOf e in
       record { number = rw is n; bytes = F .bytes; ours-words = F .ours-words; theirs-words = F .theirs-words; counted = rw is }

@@ -11,12 +11,13 @@ use Rattle.query_item.specs.declared.RangeSet.{RangeSet}
 use Rattle.query_item.specs.Boundaries.{kindOf, keyOf, withKey}
 use Rattle.query_item.proofs.Laws.{with-own-key}
 use Rattle.range_borrowed.specs.Kinds.{kindNumber, kindNumbered}
-use Rattle.item_check.specs.Checks.{accepted, written}
+use Rattle.item_check.specs.declared.Refusal.{Refusal}
+use Rattle.item_check.specs.Checks.{accepted, nonzero}
 -- the kind of a kind's number is that kind
 pub use Rattle.range_borrowed.proofs.Laws.{kind-of-number}
 use Rattle.key_order.specs.Order.{orderNumber, numberOrder}
 use Rattle.key_order.proofs.Numbers.{order-number}
-use Rattle.fernsponge.specs.Answers.{isKind, isUnbounded, setWords, setOfWords, mostIndex, refusalNumber}
+use Rattle.fernsponge.specs.Answers.{isKind, isUnbounded, setWords, setOfWords, setNumbers, setWordsIn, mostIndex, refusalNumber}
 use Rattle.fernsponge.specs.Calls.{setWordsVerdict}
 
 pub order-number-apart : (o p : Ordering) → orderNumber o ≡ orderNumber p → o ≡ p
@@ -34,7 +35,12 @@ number-of-kind (suc (suc (suc (suc (suc n))))) e = absurd (omega (arith, leb-tru
 with-own-number : (x : RangeSetItem) → withKey (kindNumbered (kindNumber (kindOf x))) (keyOf x) ≡ x
 with-own-number x = rw (kind-of-number (kindOf x)) (with-own-key x)
 
--- two boundaries are read from their words as they are
+-- two boundaries are read from their words as they are, and the words from their numbers
+
+pub words-of-own-numbers : (s : RangeSet) → setWordsIn (setNumbers s) ≡ setWords s
+unfolding setWordsIn setWords
+words-of-own-numbers s = refl
+
 pub set-of-own-words : (s : RangeSet) → setOfWords (setWords s) ≡ s
 unfolding setOfWords setWords
 set-of-own-words s = rw (with-own-number (s .start), with-own-number (s .end))
@@ -46,7 +52,7 @@ kind-own (Inclusive k) = refl
 kind-own (ExclusiveStart k) = refl
 kind-own (ExclusiveEnd k) = refl
 
-key-own : (x : RangeSetItem) → isUnbounded (kindNumber (kindOf x)) && written (keyOf x) ≡ false
+key-own : (x : RangeSetItem) → isUnbounded (kindNumber (kindOf x)) && nonzero (keyOf x) ≡ false
 key-own UnboundedStart = refl
 key-own UnboundedEnd = refl
 key-own (Inclusive k) = refl
@@ -59,10 +65,10 @@ unfolding setWords
 own-words-taken s = rw (kind-own (s .start), kind-own (s .end), key-own (s .start), key-own (s .end))
 
 -- two refusals have two numbers, and none has that of acceptance
-module _ {number side index number′ side′ index′ : ℕ} where
-  pub refusal-number-apart : number < 256 → side < 256 → index ≤ mostIndex → number′ < 256 → side′ < 256 → index′ ≤ mostIndex
-      → refusalNumber number side index ≡ refusalNumber number′ side′ index′ → (number ≡ number′) × (side ≡ side′) × (index ≡ index′)
+module _ (r t : Refusal) where
+  pub refusal-number-apart : r .number < 256 → r .side < 256 → r .index ≤ mostIndex → t .number < 256 → t .side < 256 → t .index ≤ mostIndex
+      → refusalNumber r ≡ refusalNumber t → (r .number ≡ t .number) × (r .side ≡ t .side) × (r .index ≡ t .index)
   refusal-number-apart a b c a′ b′ c′ e = omega arith
 
-pub refusal-number-positive : (number side index : ℕ) → 0 < number → 0 < refusalNumber number side index
-refusal-number-positive number side index h = omega arith
+pub refusal-number-positive : (r : Refusal) → 0 < r .number → 0 < refusalNumber r
+refusal-number-positive r h = omega arith

@@ -2,16 +2,19 @@
 use Prim.Native.Nat.{ℕ, _+_, _*_, min}
 use mathlib.Core.List.{List, [], _∷_}
 use mathlib.Core.Bool.{Bool, cond}
+use lib.ListN.{getD}
 use lib.Dec.{leb}
 use Rattle.query_item.specs.declared.ItemWords.{ItemWords}
 use Rattle.query_item.specs.declared.RangeSet.{RangeSet}
 use Rattle.query_item.specs.declared.MaybeItem.{MaybeItem}
 use Rattle.query_item.specs.declared.MaybeItem.the-variants.{NoItem, Item}
-use Rattle.query_item.specs.Items.{absent, itemWords, wordsOf, flat}
+use Rattle.query_item.specs.Items.{keyAt, absent, itemWords, wordsOf, flat}
 use Rattle.query_item.specs.Boundaries.{kindOf, keyOf, withKey, fromTo}
 use Rattle.range_borrowed.specs.declared.KeyContainmentResult.{KeyContainmentResult}
 use Rattle.range_borrowed.specs.Kinds.{kindNumber, kindNumbered}
-use Rattle.item_check.specs.Checks.{Answer, answered, refused}
+use Rattle.item_check.specs.declared.Refusal.{Refusal}
+use Rattle.item_check.specs.Checks.{Answer, answered, refusedAs}
+use Rattle.fernsponge.specs.declared.numbers.SetWords.{SetWords}
 
 -- ---- numbers (01 form.11); that of an order is `orderNumber` of `key_order`
 
@@ -27,19 +30,28 @@ isKind n = leb n 4
 abbrev pub isUnbounded : ℕ → Bool
 isUnbounded n = leb n 1
 
--- ---- six words, and seven (01 keys.3, change.2)
+-- ---- two boundaries as six words of their own (01 m2.1): the kinds of start and end, then both keys. The key words of an unbounded one are 0
 
--- two boundaries as six words, laid out as an item's: the kinds of start and end for code and wrapper, then both keys.
--- The key words of an unbounded one are 0
+unfoldable pub setWords : RangeSet → SetWords
+setWords s = record { from = kindNumber (kindOf (s .start)); to = kindNumber (kindOf (s .end)); start = keyOf (s .start); end = keyOf (s .end) }
 
-unfoldable pub setWords : RangeSet → ItemWords
-setWords s = itemWords (kindNumber (kindOf (s .start))) (kindNumber (kindOf (s .end))) (keyOf (s .start)) (keyOf (s .end))
-
-unfoldable pub setOfWords : ItemWords → RangeSet
-setOfWords it = fromTo (withKey (kindNumbered (it .code)) (it .start)) (withKey (kindNumbered (it .wrapper)) (it .end))
+unfoldable pub setOfWords : SetWords → RangeSet
+setOfWords w = fromTo (withKey (kindNumbered (w .from)) (w .start)) (withKey (kindNumbered (w .to)) (w .end))
 
 abbrev pub setNumbers : RangeSet → List ℕ
-setNumbers s = flat (setWords s)
+setNumbers s =
+    let w = setWords s in
+    w .from ∷ w .to ∷ w .start .offset ∷ w .start .length ∷ w .end .offset ∷ w .end .length ∷ []
+
+unfoldable pub setWordsIn : List ℕ → SetWords
+setWordsIn ns = record {
+  from = getD ns 0 0;
+  to = getD ns 1 0;
+  start = keyAt (getD ns 2 0) (getD ns 3 0);
+  end = keyAt (getD ns 4 0) (getD ns 5 0);
+}
+
+-- ---- seven words (01 keys.3, change.2)
 
 -- an item that may be missing: 1 and its words, which are plain, or seven times 0
 
@@ -65,18 +77,18 @@ abbrev pub mostIndex : ℕ
 mostIndex = 1099511627776
 
 -- a refusal as one number
-abbrev pub refusalNumber : ℕ → ℕ → ℕ → ℕ
-refusalNumber number side index = number + 256 * side + 65536 * min index mostIndex
+abbrev pub refusalNumber : Refusal → ℕ
+refusalNumber r = r .number + 256 * r .side + 65536 * min (r .index) mostIndex
 
 -- the returned number: 0 is acceptance
 abbrev pub returned : {A : Type 0} → Answer A → ℕ
 returned (answered a) = 0
-returned (refused number side index) = refusalNumber number side index
+returned (refusedAs r) = refusalNumber r
 
 -- a place lent for a value of the answer: the value; where the call refuses, what it held before
 abbrev pub left : {A : Type 0} → {B : Type 0} → (A → B) → Answer A → B → B
 left value (answered a) held = value a
-left value (refused number side index) held = held
+left value (refusedAs r) held = held
 
 -- a number that is told as it is
 abbrev pub itself : ℕ → ℕ

@@ -5,7 +5,7 @@ use mathlib.Core.List.{List, [], _∷_}
 use Rattle.intersect.specs.declared.QueryItemIntersectionResult.{QueryItemIntersectionResult}
 use Rattle.intersect_many.specs.declared.ManyCounts.{ManyCounts}
 use Rattle.item_check.specs.Checks.{Answer}
-use Rattle.item_lists.specs.Written.{plain, written}
+use Rattle.item_lists.specs.Written.{written}
 use Rattle.intersect_many.specs.Lists.{sharedItems, onlyItems, manyAnswer}
 use Rattle.fernsponge.specs.Answers.{maybeNumbers, returned, left}
 
@@ -21,12 +21,12 @@ pub record GivesPair (answer : Answer QueryItemIntersectionResult) (in-both ours
 
 -- 01 change.2: the three lists: how many items each has
 abbrev pub countNumbers : ManyCounts → List ℕ
-countNumbers c = c .«in_both» ∷ c .ours ∷ c .theirs ∷ []
+countNumbers c = c .shared ∷ c .ours ∷ c .theirs ∷ []
 
--- 01 m4.5: the call returns r, and what was lent to it, both, mine, yours and counts, is left as it has to be
-pub record GivesMany (pool ours theirs both mine yours counts : List ℕ) (r : ℕ) (both′ mine′ yours′ counts′ : List ℕ) : Type 0 where
-  pub number : r ≡ returned (manyAnswer pool ours theirs both mine yours)
-  pub shared : both′ ≡ written (manyAnswer pool ours theirs both mine yours) (plain (sharedItems pool ours theirs)) both
-  pub ours-only : mine′ ≡ written (manyAnswer pool ours theirs both mine yours) (plain (onlyItems pool ours theirs)) mine
-  pub theirs-only : yours′ ≡ written (manyAnswer pool ours theirs both mine yours) (plain (onlyItems pool theirs ours)) yours
-  pub counted : counts′ ≡ left countNumbers (manyAnswer pool ours theirs both mine yours) counts
+-- 01 m4.5: the call returns r, and what was lent to it, sharedOut, oursOut, theirsOut and counts, is left as it has to be
+pub record GivesMany (pool ours theirs sharedOut oursOut theirsOut counts : List ℕ) (r : ℕ) (sharedOut′ oursOut′ theirsOut′ counts′ : List ℕ) : Type 0 where
+  pub number : r ≡ returned (manyAnswer pool ours theirs sharedOut oursOut theirsOut)
+  pub shared : sharedOut′ ≡ written (manyAnswer pool ours theirs sharedOut oursOut theirsOut) (sharedItems pool ours theirs) sharedOut
+  pub ours-only : oursOut′ ≡ written (manyAnswer pool ours theirs sharedOut oursOut theirsOut) (onlyItems pool ours theirs) oursOut
+  pub theirs-only : theirsOut′ ≡ written (manyAnswer pool ours theirs sharedOut oursOut theirsOut) (onlyItems pool theirs ours) theirsOut
+  pub counted : counts′ ≡ left countNumbers (manyAnswer pool ours theirs sharedOut oursOut theirsOut) counts

@@ -8,14 +8,10 @@ use Rattle.position_query.specs.Covered.{buildVerdict, FromQueryItems}
 use Rattle.position_report.specs.declared.PositionMismatch.{PositionMismatch}
 use Rattle.fernsponge.specs.Answers.{returned, left}
 
--- 01 m6.10: a report of three parts
-abbrev pub reportOf : ℕ → ℕ → List ℕ → PositionMismatch
-reportOf total count examples = record { total = total; count = count; examples = examples }
-
 -- 01 m6.10: a comparison: it returns r, and the three places, which held total, count and examples, are left with the report
 pub record GivesReport (answer : Answer PositionMismatch) (total count : ℕ) (examples : List ℕ) (r total′ count′ : ℕ) (examples′ : List ℕ) : Type 0 where
   pub number : r ≡ returned answer
-  pub totalled : total′ ≡ left (λ m. m .total) answer total
+  pub totalled : total′ ≡ left (λ m. m .total .0) answer total
   pub counted : count′ ≡ left (λ m. m .count) answer count
   pub shown : examples′ ≡ left (λ m. m .examples) answer examples
 

@@ -12,7 +12,8 @@ pub extern "C" fn fernsponge_collect(
     theirs: &mut [u32],
     used: &mut u64,
 ) -> u64
-    ensures { λ r. ⌜ GivesCollected (now (pool .entry)) (now (fresh .entry)) (now (ours .entry)) (now (theirs .entry)) (now (used .entry)) r (now (fresh .exit)) (now (ours .exit)) (now (theirs .exit)) (now (used .exit)) ⌝ }
+    ensures { λ r. ⌜ GivesCollected (now (pool .entry)) (now (fresh .entry)) (now (ours .entry)) (now (theirs .entry)) (now (used .entry))
+        r (now (fresh .exit)) (now (ours .exit)) (now (theirs .exit)) (now (used .exit)) ⌝ }
 {
     match pool_collect::collect(pool, fresh, ours, theirs) {
         Collected::Used(n) => {

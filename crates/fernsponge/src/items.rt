@@ -1,16 +1,17 @@
 // Module 2. A kind of a boundary is a number, 0 UnboundedStart, 1 UnboundedEnd, 2 Inclusive, 3 ExclusiveStart, 4 ExclusiveEnd, and any
-// other is refused with 1. An item is six words, and two boundaries are six words too: the kinds of start and end stand for code and
-// wrapper, and the words of an unbounded one's key are 0: others are refused with 1.
+// other is refused with 1. An item is six words. Two boundaries are six words of their own, the kinds of start and end and then both keys, and
+// the words of an unbounded one's key are 0: others are refused with 1.
 ghost use mathlib.Core.Path.{_≡_};
 ghost use Rattle.query_item.specs.Items.{itemAt};
 ghost use Rattle.item_check.specs.Checks.{checkVerdict};
 ghost use Rattle.range_borrowed.specs.Kinds.{kindNumber};
 ghost use Rattle.item_ask.specs.Calls.{itemAnswerOf, toRangeSetAnswer, containmentAnswer, directionAnswer};
 ghost use Rattle.key_order.specs.Order.{orderNumber};
-ghost use Rattle.fernsponge.specs.Answers.{boolNumber, setNumbers, maybeNumbers, containmentNumbers, returned, left};
+ghost use Rattle.fernsponge.specs.Answers.{boolNumber, setNumbers, setWordsIn, maybeNumbers, containmentNumbers, returned, left};
 ghost use Rattle.fernsponge.specs.Calls.{compareAnswer, invertAnswer, betweenAnswer, directionOfFlag};
 use crate::numbers::MALFORMED;
 use crate::numbers::MAYBE_SIZE;
+use crate::numbers::SET_SIZE;
 use crate::numbers::bool_number;
 use crate::numbers::containment_numbers;
 use crate::numbers::is_kind;
@@ -20,6 +21,7 @@ use crate::numbers::order_number;
 use crate::numbers::refusal_number;
 use crate::numbers::set_numbers;
 use crate::numbers::set_of_words;
+use crate::numbers::set_words;
 use boundary::compare_boundaries;
 use boundary::invert;
 use item_ask::Containment;
@@ -81,7 +83,7 @@ pub extern "C" fn fernsponge_invert(kind: u32, is_start: bool, inverted: &mut u3
 pub extern "C" fn fernsponge_to_range_set(
     pool: &[u8],
     item: &[u32; ITEM_SIZE],
-    range: &mut [u32; ITEM_SIZE],
+    range: &mut [u32; SET_SIZE],
 ) -> u64
     ensures { λ r. ⌜ r ≡ returned (toRangeSetAnswer (now (pool .entry)) (itemAt (now (item .entry)) 0)) ⌝ }
     ensures { λ _. ⌜ now (range .exit) ≡ left setNumbers (toRangeSetAnswer (now (pool .entry)) (itemAt (now (item .entry)) 0)) (now (range .entry)) ⌝ }
@@ -99,13 +101,13 @@ pub extern "C" fn fernsponge_to_range_set(
 #[no_mangle]
 pub extern "C" fn fernsponge_to_query_item(
     pool: &[u8],
-    range: &[u32; ITEM_SIZE],
+    range: &[u32; SET_SIZE],
     item: &mut [u32; MAYBE_SIZE],
 ) -> u64
-    ensures { λ r. ⌜ r ≡ returned (betweenAnswer (now (pool .entry)) (itemAt (now (range .entry)) 0)) ⌝ }
-    ensures { λ _. ⌜ now (item .exit) ≡ left maybeNumbers (betweenAnswer (now (pool .entry)) (itemAt (now (range .entry)) 0)) (now (item .entry)) ⌝ }
+    ensures { λ r. ⌜ r ≡ returned (betweenAnswer (now (pool .entry)) (setWordsIn (now (range .entry)))) ⌝ }
+    ensures { λ _. ⌜ now (item .exit) ≡ left maybeNumbers (betweenAnswer (now (pool .entry)) (setWordsIn (now (range .entry)))) (now (item .entry)) ⌝ }
 {
-    let words = item_at(range, 0);
+    let words = set_words(range);
     if is_malformed_set(words) {
         return MALFORMED;
     }

@@ -3,19 +3,20 @@ ghost use mathlib.Core.Path.{_≡_};
 ghost use mathlib.Core.List.{_∷_};
 ghost use Rattle.query_item.specs.Items.{flat};
 ghost use Rattle.key_order.specs.Order.{orderNumber};
-ghost use Rattle.fernsponge.specs.Answers.{boolNumber, isKind, isUnbounded, refusalNumber, setNumbers, setOfWords, maybeNumbers, containmentNumbers};
+ghost use Rattle.fernsponge.specs.Answers.{boolNumber, isKind, isUnbounded, refusalNumber, setNumbers, setOfWords, setWordsIn, maybeNumbers, containmentNumbers};
 ghost use Rattle.fernsponge.specs.Calls.{malformedSet};
 use item_check::Refusal;
-use item_check::is_written;
+use item_check::is_nonzero;
 use item_words::ITEM_SIZE;
 use item_words::words_of;
 use key_order::Ordering;
+use key_order::least;
 use query_item::ItemWords;
+use query_item::KeyAt;
 use query_item::MaybeItem;
 use query_item::RangeSet;
 use query_item::pooled::key_of;
 use query_item::pooled::kind_of;
-use query_item::pooled::least;
 use query_item::pooled::with_key;
 use range_borrowed::KeyContainmentResult;
 use range_borrowed::kind_number;
@@ -59,15 +60,26 @@ fn is_unbounded(n: u32) -> bool
 }
 
 pub(crate) fn refusal_number(refusal: Refusal) -> u64
-    ensures { λ r. ⌜ r ≡ refusalNumber (refusal .number) (refusal .side) (refusal .index) ⌝ }
+    ensures { λ r. ⌜ r ≡ refusalNumber refusal ⌝ }
 {
     let index = least(refusal.index, MOST_INDEX);
     refusal.number as u64 + 256 * refusal.side as u64 + 65536 * index as u64
 }
 
-// ---- six words, and seven
+// ---- two boundaries, as six words
 
-pub(crate) fn set_numbers(set: RangeSet) -> [u32; ITEM_SIZE]
+// How many these are.
+pub(crate) const SET_SIZE: usize = 6;
+
+// The kinds of start and end, and their keys.
+pub(crate) struct SetWords {
+    pub(crate) from: u32,
+    pub(crate) to: u32,
+    pub(crate) start: KeyAt,
+    pub(crate) end: KeyAt,
+}
+
+pub(crate) fn set_numbers(set: RangeSet) -> [u32; SET_SIZE]
     ensures { λ r. ⌜ r ≡ setNumbers set ⌝ }
 {
     let from = set.start;
@@ -84,27 +96,48 @@ pub(crate) fn set_numbers(set: RangeSet) -> [u32; ITEM_SIZE]
     ]
 }
 
+pub(crate) fn set_words(numbers: &[u32; SET_SIZE]) -> SetWords
+    ensures { λ r. ⌜ r ≡ setWordsIn (now (numbers .entry)) ⌝ }
+{
+    let start = KeyAt {
+        offset: numbers[2],
+        length: numbers[3],
+    };
+    let end = KeyAt {
+        offset: numbers[4],
+        length: numbers[5],
+    };
+    SetWords {
+        from: numbers[0],
+        to: numbers[1],
+        start,
+        end,
+    }
+}
+
 // A kind that is none, or key words of an unbounded boundary that are not 0.
-pub(crate) fn is_malformed_set(words: ItemWords) -> bool
+pub(crate) fn is_malformed_set(words: SetWords) -> bool
     ensures { λ r. ⌜ r ≡ malformedSet words ⌝ }
 {
     let a = words.start;
     let b = words.end;
-    !is_kind(words.code)
-        | !is_kind(words.wrapper)
-        | (is_unbounded(words.code) & is_written(a))
-        | (is_unbounded(words.wrapper) & is_written(b))
+    !is_kind(words.from)
+        | !is_kind(words.to)
+        | (is_unbounded(words.from) & is_nonzero(a))
+        | (is_unbounded(words.to) & is_nonzero(b))
 }
 
-pub(crate) fn set_of_words(words: ItemWords) -> RangeSet
+pub(crate) fn set_of_words(words: SetWords) -> RangeSet
     ensures { λ r. ⌜ r ≡ setOfWords words ⌝ }
 {
     let a = words.start;
     let b = words.end;
-    let start = with_key(kind_numbered(words.code), a);
-    let end = with_key(kind_numbered(words.wrapper), b);
+    let start = with_key(kind_numbered(words.from), a);
+    let end = with_key(kind_numbered(words.to), b);
     RangeSet { start, end }
 }
+
+// ---- an item that may be missing, as seven words
 
 pub(crate) fn maybe_numbers(maybe: MaybeItem) -> [u32; MAYBE_SIZE]
     ensures { λ r. ⌜ r ≡ maybeNumbers maybe ⌝ }

@@ -22,7 +22,9 @@ pub extern "C" fn fernsponge_intersect_items(
     theirs_left: &mut [u32; MAYBE_SIZE],
     theirs_right: &mut [u32; MAYBE_SIZE],
 ) -> u64
-    ensures { λ r. ⌜ GivesPair (pairAnswer (now (pool .entry)) (itemAt (now (ours .entry)) 0) (itemAt (now (theirs .entry)) 0)) (now («in_both» .entry)) (now («ours_left» .entry)) (now («ours_right» .entry)) (now («theirs_left» .entry)) (now («theirs_right» .entry)) r (now («in_both» .exit)) (now («ours_left» .exit)) (now («ours_right» .exit)) (now («theirs_left» .exit)) (now («theirs_right» .exit)) ⌝ }
+    ensures { λ r. ⌜ GivesPair (pairAnswer (now (pool .entry)) (itemAt (now (ours .entry)) 0) (itemAt (now (theirs .entry)) 0))
+        (now («in_both» .entry)) (now («ours_left» .entry)) (now («ours_right» .entry)) (now («theirs_left» .entry)) (now («theirs_right» .entry))
+        r (now («in_both» .exit)) (now («ours_left» .exit)) (now («ours_right» .exit)) (now («theirs_left» .exit)) (now («theirs_right» .exit)) ⌝ }
 {
     match intersect_items(pool, item_at(ours, 0), item_at(theirs, 0)) {
         PairAnswer::Pair(parts) => {

@@ -5,12 +5,12 @@ ghost use lib.ListN.{length};
 ghost use Rattle.item_check.specs.Checks.{answered};
 ghost use Rattle.position_intervals.specs.Asked.{containsAnswer, lenAnswer, isEmptyAnswer, yesOrNoOf};
 ghost use Rattle.position_key.specs.Keys.{positionAnswer};
-ghost use Rattle.position_report.specs.Reports as reports;
+ghost use Rattle.position_report.specs.Reports.{reportAt, reportOf};
 ghost use Rattle.position_mismatch.specs.Reports.{comparedOf, missingAnswer, extraAnswer, spansAnswer};
 ghost use Rattle.position_spans.specs.Spans.{spanPairs};
 ghost use Rattle.position_describe.specs.Text.{describeAnswer, describedIn};
 ghost use Rattle.fernsponge.specs.Answers.{boolNumber, returned, left, itself};
-ghost use Rattle.fernsponge.specs.Positions.{reportOf, GivesReport, GivesPairs};
+ghost use Rattle.fernsponge.specs.Positions.{GivesReport, GivesPairs};
 use crate::numbers::bool_number;
 use crate::numbers::refusal_number;
 use crate::stored::give_stored;
@@ -52,7 +52,8 @@ pub extern "C" fn fernsponge_from_query_items(
     pairs: &mut u64,
     total: &mut u64,
 ) -> u64
-    ensures { λ r. ⌜ GivesPairs (now (pool .entry)) (now (items .entry)) count (now (out .entry)) (now (pairs .entry)) (now (total .entry)) r (now (out .exit)) (now (pairs .exit)) (now (total .exit)) ⌝ }
+    ensures { λ r. ⌜ GivesPairs (now (pool .entry)) (now (items .entry)) count (now (out .entry)) (now (pairs .entry))
+        (now (total .entry)) r (now (out .exit)) (now (pairs .exit)) (now (total .exit)) ⌝ }
 {
     give_stored(
         position_query::query::from_query_items(pool, items, RowCount(count), out),
@@ -117,7 +118,8 @@ pub extern "C" fn fernsponge_empty_report(
     count: &mut u64,
     examples: &mut [u64; PositionMismatch::MAX_REPORTED_POSITIONS],
 ) -> u64
-    ensures { λ r. ⌜ GivesReport (answered (reports.reportOf [])) (now (total .entry)) (now (count .entry)) (now (examples .entry)) r (now (total .exit)) (now (count .exit)) (now (examples .exit)) ⌝ }
+    ensures { λ r. ⌜ GivesReport (answered (reportOf [])) (now (total .entry)) (now (count .entry)) (now (examples .entry)) r
+        (now (total .exit)) (now (count .exit)) (now (examples .exit)) ⌝ }
 {
     let report = PositionMismatch::empty();
     let compared = Compared {
@@ -136,7 +138,8 @@ pub extern "C" fn fernsponge_missing_from(
     count: &mut u64,
     examples: &mut [u64; PositionMismatch::MAX_REPORTED_POSITIONS],
 ) -> u64
-    ensures { λ r. ⌜ GivesReport (missingAnswer (now (intervals .entry)) (now (proved .entry))) (now (total .entry)) (now (count .entry)) (now (examples .entry)) r (now (total .exit)) (now (count .exit)) (now (examples .exit)) ⌝ }
+    ensures { λ r. ⌜ GivesReport (missingAnswer (now (intervals .entry)) (now (proved .entry))) (now (total .entry)) (now (count .entry))
+        (now (examples .entry)) r (now (total .exit)) (now (count .exit)) (now (examples .exit)) ⌝ }
 {
     give_report(
         position_mismatch::compare::missing_from(intervals, proved),
@@ -155,7 +158,8 @@ pub extern "C" fn fernsponge_missing_from_spans(
     count: &mut u64,
     examples: &mut [u64; PositionMismatch::MAX_REPORTED_POSITIONS],
 ) -> u64
-    ensures { λ r. ⌜ GivesReport (spansAnswer (now (intervals .entry)) (spanPairs (now (spans .entry)))) (now (total .entry)) (now (count .entry)) (now (examples .entry)) r (now (total .exit)) (now (count .exit)) (now (examples .exit)) ⌝ }
+    ensures { λ r. ⌜ GivesReport (spansAnswer (now (intervals .entry)) (spanPairs (now (spans .entry)))) (now (total .entry))
+        (now (count .entry)) (now (examples .entry)) r (now (total .exit)) (now (count .exit)) (now (examples .exit)) ⌝ }
 {
     give_report(
         position_spans::missing_from_spans(intervals, spans),
@@ -174,7 +178,8 @@ pub extern "C" fn fernsponge_extra_in(
     count: &mut u64,
     examples: &mut [u64; PositionMismatch::MAX_REPORTED_POSITIONS],
 ) -> u64
-    ensures { λ r. ⌜ GivesReport (extraAnswer (now (intervals .entry)) (now (proved .entry))) (now (total .entry)) (now (count .entry)) (now (examples .entry)) r (now (total .exit)) (now (count .exit)) (now (examples .exit)) ⌝ }
+    ensures { λ r. ⌜ GivesReport (extraAnswer (now (intervals .entry)) (now (proved .entry))) (now (total .entry)) (now (count .entry))
+        (now (examples .entry)) r (now (total .exit)) (now (count .exit)) (now (examples .exit)) ⌝ }
 {
     give_report(
         position_mismatch::compare::extra_in(intervals, proved),
@@ -190,13 +195,14 @@ fn give_report(
     count: &mut u64,
     examples: &mut [u64; PositionMismatch::MAX_REPORTED_POSITIONS],
 ) -> u64
-    ensures { λ r. ⌜ GivesReport (comparedOf compared) (now (total .entry)) (now (count .entry)) (now (examples .entry)) r (now (total .exit)) (now (count .exit)) (now (examples .exit)) ⌝ }
+    ensures { λ r. ⌜ GivesReport (comparedOf compared) (now (total .entry)) (now (count .entry)) (now (examples .entry)) r
+        (now (total .exit)) (now (count .exit)) (now (examples .exit)) ⌝ }
 {
     let checked = compared.checked;
     let report = compared.report;
     match checked {
         Checked::Accepted => {
-            *total = report.total;
+            *total = report.total.0;
             *count = report.count as u64;
             let shown = report.examples;
             *examples = shown;
@@ -215,13 +221,15 @@ pub extern "C" fn fernsponge_describe(
     out: &mut [u8],
     written: &mut u64,
 ) -> u64
-    ensures { λ r. ⌜ r ≡ returned (describeAnswer (reportOf total count (now (examples .entry))) (length (now (out .entry)))) ⌝ }
-    ensures { λ _. ⌜ now (out .exit) ≡ describedIn (describeAnswer (reportOf total count (now (examples .entry))) (length (now (out .entry)))) (reportOf total count (now (examples .entry))) (now (out .entry)) ⌝ }
-    ensures { λ _. ⌜ now (written .exit) ≡ left itself (describeAnswer (reportOf total count (now (examples .entry))) (length (now (out .entry)))) (now (written .entry)) ⌝ }
+    ensures { λ r. ⌜ r ≡ returned (describeAnswer (reportAt total count (now (examples .entry))) (length (now (out .entry)))) ⌝ }
+    ensures { λ _. ⌜ now (out .exit) ≡ describedIn
+        (describeAnswer (reportAt total count (now (examples .entry))) (length (now (out .entry))))
+        (reportAt total count (now (examples .entry))) (now (out .entry)) ⌝ }
+    ensures { λ _. ⌜ now (written .exit) ≡ left itself (describeAnswer (reportAt total count (now (examples .entry))) (length (now (out .entry)))) (now (written .entry)) ⌝ }
 {
     let shown = *examples;
     let report = PositionMismatch {
-        total,
+        total: RowCount(total),
         count: count as usize,
         examples: shown,
     };

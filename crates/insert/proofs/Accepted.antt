@@ -2,7 +2,7 @@
 -- are that it comes of. Assumes nothing.
 use Prim.Native.Nat.{ℕ, _≤_}
 use mathlib.Core.Path.{_≡_, refl, _∙_}
-use mathlib.Core.Bool.{Bool, true, false, cond}
+use mathlib.Core.Bool.{true, false}
 use mathlib.Core.Logic.{_⊎_, inl, inr}
 use mathlib.Core.List.{List}
 use native.Mathlib.Omega.{arith}
@@ -14,18 +14,15 @@ use Rattle.key_order.specs.Order.{smaller}
 use Rattle.key_order.proofs.Numbers.{says-at-most}
 use Rattle.key_order.proofs.Line.{size}
 use Rattle.query_item.specs.declared.ItemWords.{ItemWords}
-use Rattle.query_item.specs.declared.QueryItem.the-variants.{Key, RangeInclusive}
 use Rattle.query_item.specs.declared.RangeSetItem.{RangeSetItem}
-use Rattle.query_item.specs.declared.RangeSetItem.the-variants.{UnboundedStart, UnboundedEnd, Inclusive, ExclusiveStart, ExclusiveEnd}
-use Rattle.query_item.specs.declared.MaybeItem.the-variants.{Item}
-use Rattle.query_item.specs.Items.{bytesOf, same}
 use Rattle.query_item.specs.Boundaries.{compareIn, rangeOf, itemBetween, upright}
-use Rattle.query_item.proofs.Laws.{Starts, Ends}
+use Rattle.query_item.proofs.Laws.{query-words, Starts, Ends, each-between}
 use Rattle.item_check.specs.Checks.{accepted, malformed, outside, uprightFault}
+use Rattle.item_check.proofs.Laws.{words-formed, KeyIn, inside-keys}
 use Rattle.insert_order.specs.Refusals.{orderedVerdict}
 use Rattle.insert_order.proofs.Ranked.{lo, hi, rk-says}
 use Rattle.insert_order.proofs.Ordered.{Among}
-use Rattle.insert_order.proofs.Accepted.{Within, code-within, Good, good, good-fault, upright-ranks, items-good, good-items, accepted-items}
+use Rattle.insert_order.proofs.Accepted.{Good, good, good-fault, upright-ranks, items-good, good-items, accepted-items}
 use Rattle.insert_merge.specs.Merge.{staying, smallerStart, largerEnd, plainItem, merged, mergedWith}
 use Rattle.insert.specs.Insertion.{inserted}
 use Rattle.insert_merge.proofs.Merged.{merged-keeps, hull-says, merged-spans}
@@ -39,31 +36,15 @@ module _ (pool : List ℕ) where
   abbrev Sound : ItemWords → Type 0
   Sound it = (malformed it ≡ false) × (outside pool it ≡ false)
 
-  item-sound : (cur : ItemWords) (s e : RangeSetItem) → Starts s → Ends e → Within pool s → Within pool e → Sound (plainItem cur (itemBetween pool s e))
-  item-sound cur (Inclusive a) (Inclusive b) h k p q = go (same (bytesOf pool a) (bytesOf pool b))
-    where
-      go : (t : Bool) → Sound (plainItem cur (cond t (Item (Key a)) (Item (RangeInclusive a b))))
-      go true = (refl, rw p)
-      go false = (refl, rw (p, q))
-  item-sound cur (Inclusive a) (ExclusiveEnd b) h k p q = (refl, rw (p, q))
-  item-sound cur (Inclusive a) UnboundedEnd h k p q = (refl, rw p)
-  item-sound cur (Inclusive a) UnboundedStart h k p q = absurd k
-  item-sound cur (Inclusive a) (ExclusiveStart b) h k p q = absurd k
-  item-sound cur (ExclusiveStart a) (Inclusive b) h k p q = (refl, rw (p, q))
-  item-sound cur (ExclusiveStart a) (ExclusiveEnd b) h k p q = (refl, rw (p, q))
-  item-sound cur (ExclusiveStart a) UnboundedEnd h k p q = (refl, rw p)
-  item-sound cur (ExclusiveStart a) UnboundedStart h k p q = absurd k
-  item-sound cur (ExclusiveStart a) (ExclusiveStart b) h k p q = absurd k
-  item-sound cur UnboundedStart (Inclusive b) h k p q = (refl, q)
-  item-sound cur UnboundedStart (ExclusiveEnd b) h k p q = (refl, q)
-  item-sound cur UnboundedStart UnboundedEnd h k p q = (refl, refl)
-  item-sound cur UnboundedStart UnboundedStart h k p q = absurd k
-  item-sound cur UnboundedStart (ExclusiveStart b) h k p q = absurd k
-  item-sound cur UnboundedEnd e h k p q = absurd h
-  item-sound cur (ExclusiveEnd a) e h k p q = absurd h
+  item-sound : (cur : ItemWords) (s e : RangeSetItem) → Starts s → Ends e → KeyIn pool s → KeyIn pool e → Sound (plainItem cur (itemBetween pool s e))
+  item-sound cur =
+      each-between pool (λ s e m. Starts s → Ends e → KeyIn pool s → KeyIn pool e → Sound (plainItem cur m))
+      (λ a b t h k p q. (refl, rw p))
+      (λ x i h k p q. (words-formed x, rw (query-words 0 x, p, q)))
+      (λ s e no h k p q. absurd (no h k))
 
   -- of two boundaries in the pool either is
-  picked : (o : Ordering) (x y : RangeSetItem) → Within pool x → Within pool y → Within pool (smaller o x y)
+  picked : (o : Ordering) (x y : RangeSetItem) → KeyIn pool x → KeyIn pool y → KeyIn pool (smaller o x y)
   picked Less x y p q = p
   picked Equal x y p q = q
   picked Greater x y p q = q
@@ -83,8 +64,8 @@ module _ (pool : List ℕ) where
   unfolding merged
   merged-good cur it g h =
       let u = hull-says (size pool) pool fits cur it in
-      let v = code-within pool (cur .code) (cur .start) (cur .end) (g .inside) in
-      let w = code-within pool (it .code) (it .start) (it .end) (h .inside) in
+      let v = inside-keys pool cur (g .inside) in
+      let w = inside-keys pool it (h .inside) in
       let r =
       item-sound cur (smallerStart pool (rangeOf cur .start) (rangeOf it .start)) (largerEnd pool (rangeOf cur .end) (rangeOf it .end)) (u .starts) (u .ends)
       (picked (compareIn pool (rangeOf it .start) (rangeOf cur .start)) (rangeOf it .start) (rangeOf cur .start) (w .0) (v .0))

@@ -8,6 +8,7 @@ use native.Mathlib.Omega.{arith}
 use lib.ListN.{length, length-append, length-replicate, length-drop}
 use lib.Dec.{ltb}
 use borrow.Author.Tests.{ltb-false, le-ltb}
+use Rattle.key_order.proofs.Impossible.{impossible}
 use Rattle.query_item.specs.declared.ItemWords.{ItemWords}
 use Rattle.query_item.specs.Items.{itemSize, itemsFrom}
 use Rattle.item_check.specs.Checks.{Answer, answered, refused, accepted, mostItems, uprightFault}
@@ -16,21 +17,21 @@ use Rattle.item_lists.proofs.Written.{length-flat}
 use Rattle.insert_order.specs.Refusals.{inputVerdict}
 use Rattle.insert_order.proofs.Accepted.{Ready, input-pool, input-buffer, input-count, input-list, input-new}
 use Rattle.insert.specs.Insertion.{inserted}
-use Rattle.insert.specs.Answers.{roomAnswer, laid, listAfter, checkedAnswer, insertAnswer, insertWords}
+use Rattle.insert.specs.Answers.{insertRoomAnswer, laid, listAfter, checkedAnswer, insertAnswer, insertWords}
 use Rattle.insert.proofs.Laws.{insert-accepted, laid-items}
 
 -- ---- the room
 
-pub room-enough : (ws : List ℕ) (n : ℕ) → n ≤ length ws / itemSize → n ≤ mostItems → roomAnswer ws n ≡ answered n
+pub room-enough : (ws : List ℕ) (n : ℕ) → n ≤ length ws / itemSize → n ≤ mostItems → insertRoomAnswer ws n ≡ answered n
 room-enough ws n h l = rw (le-ltb (length ws / itemSize) n h, le-ltb mostItems n l)
 
-room-passed : (ws : List ℕ) (m n : ℕ) → roomAnswer ws m ≡ answered n → (m ≡ n) × (m ≤ length ws / itemSize) × (m ≤ mostItems)
+room-passed : (ws : List ℕ) (m n : ℕ) → insertRoomAnswer ws m ≡ answered n → (m ≡ n) × (m ≤ length ws / itemSize) × (m ≤ mostItems)
 room-passed ws m n e = go (ltb (length ws / itemSize) m) (ltb mostItems m) (ltb-false (length ws / itemSize) m) (ltb-false mostItems m) e
   where
     go : (s t : Bool) → (s ≡ false → m ≤ length ws / itemSize) → (t ≡ false → m ≤ mostItems)
         → _≡_ {A = Answer ℕ} (cond (s || t) (refused 6 0 0) (answered m)) (answered n) → (m ≡ n) × (m ≤ length ws / itemSize) × (m ≤ mostItems)
-    go true t p q f = absurd (let z : _≡_ {A = ℕ} 0 1 = cc in omega arith)
-    go false true p q f = absurd (let z : _≡_ {A = ℕ} 0 1 = cc in omega arith)
+    go true t p q f = impossible cc
+    go false true p q f = impossible cc
     go false false p q f = (cc, p cc, q cc)
 
 length-laid : (ws : List ℕ) (count : ℕ) (its : List ItemWords) → count ≤ length ws / itemSize → length its ≤ length ws / itemSize
@@ -42,7 +43,7 @@ length-laid ws count its h l = simp (length-append, length-replicate, length-dro
 
 -- an item that passes the checks is refused for want of room alone
 pub ready-answer : (pool ws : List ℕ) (count : ℕ) (new : ItemWords) → Ready pool ws count → uprightFault pool new ≡ 0
-    → insertAnswer pool ws count new ≡ roomAnswer ws (length (inserted pool new (itemsFrom ws 0 count)))
+    → insertAnswer pool ws count new ≡ insertRoomAnswer ws (length (inserted pool new (itemsFrom ws 0 count)))
 ready-answer pool ws count new r u = rw (r .small, r .within, r .listed, u)
 
 -- ---- a call that answers

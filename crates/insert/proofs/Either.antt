@@ -10,7 +10,7 @@ use native.Mathlib.Omega.{arith}
 use native.Mathlib.Nat.{le-refl}
 use Rattle.key_order.proofs.Line.{size}
 use Rattle.query_item.specs.declared.ItemWords.{ItemWords}
-use Rattle.query_item.specs.Items.{shown}
+use Rattle.query_item.specs.Items.{shown, SameShown}
 use Rattle.insert_order.specs.Order.{sameItem}
 use Rattle.insert_order.proofs.Ranked.{lo, hi, itemRank, rank-above, same-shown, same-sym}
 use Rattle.insert_order.proofs.Ordered.{Among, Sorted}
@@ -240,12 +240,12 @@ module _ (pool : List ℕ) (its : List ItemWords) where
           go (inl c) (inr q) = equals-shown (equals-swap y x q)
           go (inr q) r = equals-shown q
 
-      either-joined : map (shown pool) (inserted pool y (inserted pool x its)) ≡ map (shown pool) (inserted pool x (inserted pool y its))
+      either-joined : SameShown pool pool (inserted pool y (inserted pool x its)) (inserted pool x (inserted pool y its))
       either-joined =
           ap (map (shown pool)) (one-placed x y ux uy n)
           ∙ placed-shown pool pool (N x y) (N y x) (staying pool y (staying pool x its)) (staying pool x (staying pool y its)) one-shown
           (ap (map (shown pool)) (staying-comm pool x y its))
           ∙ ap (map (shown pool)) (sym (one-placed y x uy ux other-gone))
 
-    pub either-shown : map (shown pool) (inserted pool y (inserted pool x its)) ≡ map (shown pool) (inserted pool x (inserted pool y its))
+    pub either-shown : SameShown pool pool (inserted pool y (inserted pool x its)) (inserted pool x (inserted pool y its))
     either-shown = ⊎-elim (λ e. ap (map (shown pool)) (either-apart e)) either-joined (stays-or-gone pool y (M x))

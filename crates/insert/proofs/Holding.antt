@@ -15,7 +15,7 @@ use Rattle.query_item.specs.declared.ItemWords.{ItemWords}
 use Rattle.query_item.specs.Items.{holds, queryItem, holdsAny}
 use Rattle.query_item.specs.Boundaries.{boundaryOf, rangeOf}
 use Rattle.query_item.proofs.Laws.{holds-between}
-use Rattle.insert_order.specs.Order.{orderItems, sameItem}
+use Rattle.insert_order.specs.Order.{compareItems, sameItem}
 use Rattle.insert_merge.specs.declared.Fate.{Fate}
 use Rattle.insert_merge.specs.declared.Fate.the-variants.{Replaced, Stays, Merges}
 use Rattle.insert_merge.specs.Merge.{fateOf, keepBy, staying, merged, mergeBy, mergedWith}
@@ -157,7 +157,7 @@ module _ (pool k : List ℕ) where
   holds-placed : (result : ItemWords) (its : List ItemWords) → holdsAny pool (placed pool result its) k ≡ held result || holdsAny pool its k
   unfolding placed holdsAny
   holds-placed result [] = refl
-  holds-placed result (it ∷ its) = go (isLess (orderItems pool it result)) (holds-placed result its)
+  holds-placed result (it ∷ its) = go (isLess (compareItems pool it result)) (holds-placed result its)
     where
       go : (t : Bool) → holdsAny pool (placed pool result its) k ≡ held result || holdsAny pool its k
           → holdsAny pool (cond t (it ∷ placed pool result its) (result ∷ it ∷ its)) k ≡ held result || (held it || holdsAny pool its k)

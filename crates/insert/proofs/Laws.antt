@@ -3,15 +3,15 @@ use Prim.Native.Nat.{ℕ, suc, _-_, _*_, max}
 use mathlib.Core.Path.{_≡_, refl, ap}
 use mathlib.Core.Bool.{Bool, true, false, cond, _||_, _&&_}
 use mathlib.Core.Logic.{inl, inr}
-use mathlib.Core.List.{List, [], _∷_, _++_, map}
+use mathlib.Core.List.{List, [], _∷_, _++_}
 use lib.ListN.{length, take, drop, replicate}
 use Rattle.key_order.specs.declared.Ordering.the-variants.{Equal}
 use Rattle.key_order.specs.Order.{isLess}
 use Rattle.query_item.specs.declared.ItemWords.{ItemWords}
-use Rattle.query_item.specs.Items.{itemSize, itemsFrom, shown, holds, queryItem, holdsAny}
+use Rattle.query_item.specs.Items.{itemSize, itemsFrom, shown, SameShown, holds, queryItem, holdsAny}
 use Rattle.item_check.specs.Checks.{accepted, uprightFault}
 use Rattle.item_check.proofs.Laws.{refused-apart}
-use Rattle.insert_order.specs.Order.{orderItems, plain, sameItem}
+use Rattle.insert_order.specs.Order.{compareItems, plain, sameItem}
 use Rattle.insert_order.specs.Refusals.{orderVerdict, orderedVerdict}
 use Rattle.insert_order.proofs.Ordered.{Among}
 use Rattle.insert_order.proofs.Accepted.{accepted-sorted, upright-ranks}
@@ -36,11 +36,11 @@ use Rattle.insert.proofs.Either.{either-shown}
 -- ---- the answer
 
 -- the numbers that an answer stands for tell any two answers apart (01 tight.1)
-pub answer-apart : (r s : Inserted) → insertedOf r ≡ insertedOf s → r ≡ s
-answer-apart (Count m) (Count n) e = cc
-answer-apart (Count m) (Refused s) e = cc
-answer-apart (Refused r) (Count n) e = cc
-answer-apart (Refused r) (Refused s) e = ap Refused (refused-apart r s e)
+pub inserted-apart : (r s : Inserted) → insertedOf r ≡ insertedOf s → r ≡ s
+inserted-apart (Count m) (Count n) e = cc
+inserted-apart (Count m) (Refused s) e = cc
+inserted-apart (Refused r) (Count n) e = cc
+inserted-apart (Refused r) (Refused s) e = ap Refused (refused-apart r s e)
 
 -- ---- the list
 
@@ -74,7 +74,7 @@ insert-between pool new its e =
 -- 02 §10.2: items stand in order of arrival: what is inserted stands, as what it becomes, before an item of the list that covers the same range,
 -- where the two are not equal and not both plain
 pub insert-arrival : (pool : List ℕ) (new it : ItemWords) (its : List ItemWords) → orderedVerdict pool its ≡ accepted → Among it its
-    → sameItem pool new it ≡ false → plain new && plain it ≡ false → orderItems pool it (mergedWith pool new new its) ≡ Equal
+    → sameItem pool new it ≡ false → plain new && plain it ≡ false → compareItems pool it (mergedWith pool new new its) ≡ Equal
     → StandsBefore (mergedWith pool new new its) it (inserted pool new its)
 unfolding fateOf
 insert-arrival pool new it its a m n w e =
@@ -91,14 +91,14 @@ insert-keeps pool new x y its e f s =
 -- 02 §10.1: two plain upright items may be inserted in either order: the lists are the same by bytes
 pub insert-either : (pool : List ℕ) (its : List ItemWords) (x y : ItemWords) → orderedVerdict pool its ≡ accepted → uprightFault pool x ≡ 0
     → uprightFault pool y ≡ 0 → plain x ≡ true → plain y ≡ true
-    → map (shown pool) (inserted pool y (inserted pool x its)) ≡ map (shown pool) (inserted pool x (inserted pool y its))
+    → SameShown pool pool (inserted pool y (inserted pool x its)) (inserted pool x (inserted pool y its))
 insert-either pool its x y e f g p q =
     either-shown pool its (accepted-sorted pool its e) x y
     (record { bare = p; stands = upright-ranks pool x f }) (record { bare = q; stands = upright-ranks pool y g })
 
 -- an insertion goes by what items show, whatever pool they stand in: offsets do not tell
-pub insert-shown : (P Q : List ℕ) (x y : ItemWords) (A B : List ItemWords) → shown P x ≡ shown Q y → map (shown P) A ≡ map (shown Q) B
-    → map (shown P) (inserted P x A) ≡ map (shown Q) (inserted Q y B)
+pub insert-shown : (P Q : List ℕ) (x y : ItemWords) (A B : List ItemWords) → shown P x ≡ shown Q y → SameShown P Q A B
+    → SameShown P Q (inserted P x A) (inserted Q y B)
 unfolding inserted
 insert-shown P Q x y A B s e =
     placed-shown P Q (mergedWith P x x A) (mergedWith Q y y B) (staying P x A) (staying Q y B) (result-shown P Q x y x y A B s s e)
@@ -110,7 +110,7 @@ module _ (pool : List ℕ) (new : ItemWords) where
       → placed pool new its ≡ take (firstChanged pool new new its) its ++ (new ∷ drop (firstChanged pool new new its) its)
   unfolding placed firstChanged
   apart-between [] f = refl
-  apart-between (x ∷ xs) f = rw (f x (inl refl)) (go (isLess (orderItems pool x new)) (apart-between xs (λ y m. f y (inr m))))
+  apart-between (x ∷ xs) f = rw (f x (inl refl)) (go (isLess (compareItems pool x new)) (apart-between xs (λ y m. f y (inr m))))
     where
       a : ℕ
       a = firstChanged pool new new xs

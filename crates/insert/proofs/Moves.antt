@@ -9,11 +9,12 @@ use lib.ListN.{length, take, drop, take-append-drop}
 use lib.Seq.{slice, drop-drop, take-at, drop-at}
 use lib.Dec.{ltb, leb, eqb}
 use borrow.Author.Tests.{ltb-true, leb-true, eqb-true, lt-ltb}
+use Rattle.key_order.proofs.Impossible.{impossible}
 use Rattle.key_order.specs.Order.{isLess}
 use Rattle.query_item.specs.declared.ItemWords.{ItemWords}
 use Rattle.query_item.specs.Items.{itemSize, itemAt, itemsFrom, flat, flatAll, withItem}
 use Rattle.item_check.proofs.Scans.{items-end, items-more}
-use Rattle.insert_order.specs.Order.{orderItems}
+use Rattle.insert_order.specs.Order.{compareItems}
 use Rattle.insert_merge.specs.declared.Fate.{Fate}
 use Rattle.insert_merge.specs.declared.Fate.the-variants.{Replaced, Stays, Merges}
 use Rattle.insert_merge.specs.Merge.{fateOf, keepBy, staying, isStaying}
@@ -34,7 +35,7 @@ handed-more : (pool : List ℕ) (isPlaced : Bool) (hand it : ItemWords) (its : L
     → handed pool isPlaced hand (it ∷ its) ≡ pick t it hand ∷ handed pool (not t) (pick t hand it) its
 unfolding handed placed
 handed-more pool true hand it its t e = rw e
-handed-more pool false hand it its t e = rw e (go (isLess (orderItems pool it hand)))
+handed-more pool false hand it its t e = rw e (go (isLess (compareItems pool it hand)))
   where
     go : (u : Bool) → cond u (it ∷ placed pool hand its) (hand ∷ it ∷ its) ≡ pick u it hand ∷ handed pool (not u) (pick u hand it) its
     go true = refl
@@ -46,13 +47,13 @@ handed-end pool true hand = refl
 handed-end pool false hand = refl
 
 keep-staying : (f : Fate) (it : ItemWords) (its : List ItemWords) → isStaying f ≡ true → keepBy f it its ≡ it ∷ its
-keep-staying Replaced it its e = absurd (let z : _≡_ {A = ℕ} 0 1 = cc in omega arith)
+keep-staying Replaced it its e = impossible cc
 keep-staying Stays it its e = refl
-keep-staying Merges it its e = absurd (let z : _≡_ {A = ℕ} 0 1 = cc in omega arith)
+keep-staying Merges it its e = impossible cc
 
 keep-taken : (f : Fate) (it : ItemWords) (its : List ItemWords) → isStaying f ≡ false → keepBy f it its ≡ its
 keep-taken Replaced it its e = refl
-keep-taken Stays it its e = absurd (let z : _≡_ {A = ℕ} 0 1 = cc in omega arith)
+keep-taken Stays it its e = impossible cc
 keep-taken Merges it its e = refl
 
 -- ---- the loop's test
@@ -62,7 +63,7 @@ more-told i count t e = go (ltb i count) refl e
   where
     go : (u : Bool) → ltb i count ≡ u → u && t ≡ true → i < count
     go true p q = ltb-true i count p
-    go false p q = absurd (let z : _≡_ {A = ℕ} 0 1 = cc in omega arith)
+    go false p q = impossible cc
 
 rest-told : (isPlaced : Bool) (asked to i count : ℕ) → ltb i count && not (isPlaced && leb asked i && eqb to i) ≡ false → i < count
     → (isPlaced ≡ true) × (asked ≤ i) × (to ≡ i)
@@ -70,9 +71,9 @@ rest-told isPlaced asked to i count e h = go isPlaced (leb asked i) (eqb to i) r
   where
     go : (p u v : Bool) → leb asked i ≡ u → eqb to i ≡ v → not (p && u && v) ≡ false → (p ≡ true) × (asked ≤ i) × (to ≡ i)
     go true true true a b z = (refl, leb-true asked i a, eqb-true to i b)
-    go true true false a b z = absurd (let y : _≡_ {A = ℕ} 0 1 = cc in omega arith)
-    go true false v a b z = absurd (let y : _≡_ {A = ℕ} 0 1 = cc in omega arith)
-    go false u v a b z = absurd (let y : _≡_ {A = ℕ} 0 1 = cc in omega arith)
+    go true true false a b z = impossible cc
+    go true false v a b z = impossible cc
+    go false u v a b z = impossible cc
 
 -- ---- the pass
 

@@ -9,11 +9,12 @@ use native.Mathlib.Omega.{arith}
 use native.Mathlib.Nat.{le-refl}
 use lib.Dec.{eqb}
 use borrow.Author.Tests.{ltb-true, ltb-false, le-ltb}
+use Rattle.key_order.proofs.Impossible.{impossible}
 use Rattle.key_order.specs.Order.{isLess}
 use Rattle.key_order.proofs.Line.{size}
 use Rattle.query_item.specs.declared.ItemWords.{ItemWords}
 use Rattle.item_check.specs.Checks.{accepted, uprightFault}
-use Rattle.insert_order.specs.Order.{orderItems, plain, sameItem, endsBelow, clash}
+use Rattle.insert_order.specs.Order.{compareItems, plain, sameItem, endsBelow, clash}
 use Rattle.insert_order.specs.Refusals.{orderVerdict, orderedVerdict}
 use Rattle.insert_order.proofs.Ranked.{lo, hi, itemRank, order-less, rank-above, same-rank, same-item-rank, same-wrapper}
 use Rattle.insert_order.proofs.Seen.{clash-none}
@@ -60,7 +61,7 @@ module _ (pool : List ℕ) where
           meets p f = let y = fate-is pool new p f in let r = meets-ranks (size pool) pool fits new p y in (y .it-plain, r .0, r .1)
 
           one : (p : ItemWords) → fateOf pool new p ≡ Merges → x ≡ p → ⊥
-          one p f q = let z : Stays ≡ Merges = sym e ∙ ap (fateOf pool new) q ∙ f in let y : _≡_ {A = ℕ} 0 1 = cc in omega arith
+          one p f q = let z : Stays ≡ Merges = sym e ∙ ap (fateOf pool new) q ∙ f in impossible cc
 
           left : E x < S new → (p : ItemWords) → Among p its → fateOf pool new p ≡ Merges → E x < S p
           left l p n f =
@@ -109,12 +110,12 @@ module _ (pool : List ℕ) where
               absurd (⊎-elim (λ l. omega (arith, r .0, up x m)) (λ l. omega (arith, r .0, up-result)) (side x m e f g))
           go true f false g true h =
               let w = merged-plain (size pool) pool fits new new its f in
-              absurd (let z : _≡_ {A = Bool} true false = sym w ∙ ap (λ (v : ℕ). eqb v 0) (same-wrapper pool M x h) ∙ g in let y : _≡_ {A = ℕ} 0 1 = cc in omega arith)
+              absurd (let z : _≡_ {A = Bool} true false = sym w ∙ ap (λ (v : ℕ). eqb v 0) (same-wrapper pool M x h) ∙ g in impossible cc)
           go false f c g true h =
               let w = fate-is pool new x e .other in
-              absurd (let z : _≡_ {A = Bool} true false = sym (rw (merged-wrapped its new f) at h) ∙ w in let y : _≡_ {A = ℕ} 0 1 = cc in omega arith)
+              absurd (let z : _≡_ {A = Bool} true false = sym (rw (merged-wrapped its new f) at h) ∙ w in impossible cc)
 
-      below : (x : ItemWords) → Among x its → fateOf pool new x ≡ Stays → isLess (orderItems pool x M) ≡ true → clash pool x M ≡ false
+      below : (x : ItemWords) → Among x its → fateOf pool new x ≡ Stays → isLess (compareItems pool x M) ≡ true → clash pool x M ≡ false
       below x m e l =
           let k : K x < K M = ltb-true (K x) (K M) (sym (order-less (size pool) pool fits x M) ∙ l) in
           clash-none pool x M (omega arith) (λ s t. apart s t k) (differ (sameItem pool x M) refl k)
@@ -130,7 +131,7 @@ module _ (pool : List ℕ) where
           differ true h k = absurd (omega (arith, same-item-rank (size pool) pool x M h))
           differ false h k = refl
 
-      above : (x : ItemWords) → Among x its → fateOf pool new x ≡ Stays → isLess (orderItems pool x M) ≡ false → clash pool M x ≡ false
+      above : (x : ItemWords) → Among x its → fateOf pool new x ≡ Stays → isLess (compareItems pool x M) ≡ false → clash pool M x ≡ false
       above x m e l =
           let k : K M ≤ K x = ltb-false (K x) (K M) (sym (order-less (size pool) pool fits x M) ∙ l) in
           clash-none pool M x k (λ s t. apart s t k) (other x m e)
@@ -147,12 +148,12 @@ module _ (pool : List ℕ) where
       placed-ordered : (xs : List ItemWords) → Ordered pool xs → ((x : ItemWords) → Among x xs → Among x its × (fateOf pool new x ≡ Stays)) → Ordered pool (placed pool M xs)
       unfolding placed
       placed-ordered [] q f = (λ y m. absurd m, tt)
-      placed-ordered (x ∷ xs) q f = go (isLess (orderItems pool x M)) refl (placed-ordered xs (q .1) (λ y m. f y (inr m)))
+      placed-ordered (x ∷ xs) q f = go (isLess (compareItems pool x M)) refl (placed-ordered xs (q .1) (λ y m. f y (inr m)))
         where
           here : Among x its × (fateOf pool new x ≡ Stays)
           here = f x (inl refl)
 
-          go : (t : Bool) → isLess (orderItems pool x M) ≡ t → Ordered pool (placed pool M xs) → Ordered pool (cond t (x ∷ placed pool M xs) (M ∷ x ∷ xs))
+          go : (t : Bool) → isLess (compareItems pool x M) ≡ t → Ordered pool (placed pool M xs) → Ordered pool (cond t (x ∷ placed pool M xs) (M ∷ x ∷ xs))
           go true e r = (λ y m. later y (among-placed pool M xs y m), r)
             where
               later : (y : ItemWords) → (y ≡ M) ⊎ Among y xs → clash pool x y ≡ false

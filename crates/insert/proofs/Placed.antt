@@ -4,7 +4,7 @@ use Prim.Native.Nat.{ℕ, _≤_, _<_}
 use mathlib.Core.Path.{_≡_, refl, sym, ap, ap₂, _∙_}
 use mathlib.Core.Bool.{Bool, true, false, cond, true≢false}
 use mathlib.Core.Logic.{_⊎_, inl, inr, ⊎-elim}
-use mathlib.Core.List.{List, [], _∷_, _++_, map}
+use mathlib.Core.List.{List, [], _∷_, _++_}
 use native.Mathlib.Omega.{arith}
 use native.Mathlib.Nat.{le-refl}
 use lib.ListN.{length}
@@ -13,8 +13,8 @@ use borrow.Author.Tests.{ltb-true, ltb-false, lt-ltb, le-ltb}
 use Rattle.key_order.specs.Order.{isLess}
 use Rattle.key_order.proofs.Line.{size}
 use Rattle.query_item.specs.declared.ItemWords.{ItemWords}
-use Rattle.query_item.specs.Items.{shown}
-use Rattle.insert_order.specs.Order.{orderItems}
+use Rattle.query_item.specs.Items.{shown, SameShown}
+use Rattle.insert_order.specs.Order.{compareItems}
 use Rattle.insert_order.proofs.Ranked.{itemRank, order-less, order-shown}
 use Rattle.insert_order.proofs.Ordered.{Among, among-parts, parts-among, Sorted}
 use Rattle.insert_merge.specs.declared.Fate.{Fate}
@@ -28,7 +28,7 @@ module _ (pool : List ℕ) where
   abbrev K : ItemWords → ℕ
   K it = itemRank (size pool) pool it
 
-  below : (x y : ItemWords) → isLess (orderItems pool x y) ≡ ltb (K x) (K y)
+  below : (x y : ItemWords) → isLess (compareItems pool x y) ≡ ltb (K x) (K y)
   below x y = order-less (size pool) pool (le-refl (size pool)) x y
 
   -- ---- the place
@@ -39,15 +39,15 @@ module _ (pool : List ℕ) where
     pub back : List ItemWords
     pub parts : others ≡ front ++ back
     pub together : whole ≡ front ++ (result ∷ back)
-    pub before : (y : ItemWords) → Among y front → isLess (orderItems pool y result) ≡ true
-    pub behind : (y : ItemWords) → Among y back → isLess (orderItems pool y result) ≡ false
+    pub before : (y : ItemWords) → Among y front → isLess (compareItems pool y result) ≡ true
+    pub behind : (y : ItemWords) → Among y back → isLess (compareItems pool y result) ≡ false
 
   pub placed-between : (result : ItemWords) (its : List ItemWords) → Sorted pool its → Divides result its (placed pool result its)
   unfolding placed
   placed-between result [] o = record { front = []; back = []; parts = refl; together = refl; before = λ y m. absurd m; behind = λ y m. absurd m }
-  placed-between result (x ∷ xs) o = go (isLess (orderItems pool x result)) refl (placed-between result xs (o .1))
+  placed-between result (x ∷ xs) o = go (isLess (compareItems pool x result)) refl (placed-between result xs (o .1))
     where
-      go : (t : Bool) → isLess (orderItems pool x result) ≡ t → Divides result xs (placed pool result xs)
+      go : (t : Bool) → isLess (compareItems pool x result) ≡ t → Divides result xs (placed pool result xs)
           → Divides result (x ∷ xs) (cond t (x ∷ placed pool result xs) (result ∷ x ∷ xs))
       go true e b = record {
         front = x ∷ b .front;
@@ -58,7 +58,7 @@ module _ (pool : List ℕ) where
         behind = b .behind;
       }
         where
-          first : (y : ItemWords) → (y ≡ x) ⊎ Among y (b .front) → isLess (orderItems pool y result) ≡ true
+          first : (y : ItemWords) → (y ≡ x) ⊎ Among y (b .front) → isLess (compareItems pool y result) ≡ true
           first y (inl s) = rw s e
           first y (inr m) = b .before y m
       go false e b = record { front = []; back = x ∷ xs; parts = refl; together = refl; before = λ y m. absurd m; behind = later }
@@ -66,7 +66,7 @@ module _ (pool : List ℕ) where
           least : K result ≤ K x
           least = ltb-false (K x) (K result) (sym (below x result) ∙ e)
 
-          later : (y : ItemWords) → (y ≡ x) ⊎ Among y xs → isLess (orderItems pool y result) ≡ false
+          later : (y : ItemWords) → (y ≡ x) ⊎ Among y xs → isLess (compareItems pool y result) ≡ false
           later y (inl s) = rw s e
           later y (inr m) = below y result ∙ le-ltb (K y) (K result) (omega (arith, o .0 y m, least))
 
@@ -81,7 +81,7 @@ module _ (pool : List ℕ) where
   pub among-placed : (result : ItemWords) (xs : List ItemWords) (y : ItemWords) → Among y (placed pool result xs) → (y ≡ result) ⊎ Among y xs
   unfolding placed
   among-placed result [] y m = m
-  among-placed result (x ∷ xs) y m = go (isLess (orderItems pool x result)) m (among-placed result xs y)
+  among-placed result (x ∷ xs) y m = go (isLess (compareItems pool x result)) m (among-placed result xs y)
     where
       go : (t : Bool) → Among y (cond t (x ∷ placed pool result xs) (result ∷ x ∷ xs)) → (Among y (placed pool result xs) → (y ≡ result) ⊎ Among y xs)
           → (y ≡ result) ⊎ ((y ≡ x) ⊎ Among y xs)
@@ -92,7 +92,7 @@ module _ (pool : List ℕ) where
   pub placed-among : (result : ItemWords) (xs : List ItemWords) (y : ItemWords) → (y ≡ result) ⊎ Among y xs → Among y (placed pool result xs)
   unfolding placed
   placed-among result [] y m = m
-  placed-among result (x ∷ xs) y m = go (isLess (orderItems pool x result)) m (placed-among result xs y)
+  placed-among result (x ∷ xs) y m = go (isLess (compareItems pool x result)) m (placed-among result xs y)
     where
       go : (t : Bool) → (y ≡ result) ⊎ ((y ≡ x) ⊎ Among y xs) → ((y ≡ result) ⊎ Among y xs → Among y (placed pool result xs))
           → Among y (cond t (x ∷ placed pool result xs) (result ∷ x ∷ xs))
@@ -113,10 +113,10 @@ module _ (pool : List ℕ) where
 
   -- what is not below a result stands behind it
   pub divides-before : (result : ItemWords) (others whole : List ItemWords) → Divides result others whole → (y : ItemWords) → Among y others
-      → isLess (orderItems pool y result) ≡ false → StandsBefore result y whole
+      → isLess (compareItems pool y result) ≡ false → StandsBefore result y whole
   divides-before result others whole d y m e = rw (d .together) (behind-first result y (d .front) (d .back) (go (d .front) (d .before) (rw (d .parts) at m)))
     where
-      go : (front : List ItemWords) → ((z : ItemWords) → Among z front → isLess (orderItems pool z result) ≡ true) → Among y (front ++ d .back) → Among y (d .back)
+      go : (front : List ItemWords) → ((z : ItemWords) → Among z front → isLess (compareItems pool z result) ≡ true) → Among y (front ++ d .back) → Among y (d .back)
       go [] f n = n
       go (z ∷ front) f (inl s) = absurd (true≢false (sym (f y (inl s)) ∙ e))
       go (z ∷ front) f (inr n) = go front (λ w k. f w (inr k)) n
@@ -130,12 +130,12 @@ module _ (pool : List ℕ) where
       rest = s .1 ++ (y ∷ s .2)
 
       go : (front : List ItemWords) → StandsBefore x y (placed pool result (front ++ (x ∷ rest)))
-      go [] = at (isLess (orderItems pool x result))
+      go [] = at (isLess (compareItems pool x result))
         where
           at : (t : Bool) → StandsBefore x y (cond t (x ∷ placed pool result rest) (result ∷ x ∷ rest))
           at true = behind-first x y [] (placed pool result rest) (placed-among result rest y (inr (parts-among (s .1) y (s .2))))
           at false = behind-first x y (result ∷ []) rest (parts-among (s .1) y (s .2))
-      go (z ∷ front) = at (isLess (orderItems pool z result)) (go front)
+      go (z ∷ front) = at (isLess (compareItems pool z result)) (go front)
         where
           at : (t : Bool) → StandsBefore x y (placed pool result (front ++ (x ∷ rest)))
               → StandsBefore x y (cond t (z ∷ placed pool result (front ++ (x ∷ rest))) (result ∷ z ∷ (front ++ (x ∷ rest))))
@@ -174,7 +174,7 @@ module _ (pool : List ℕ) where
 
       go : (l : List ItemWords) → staying pool new (placed pool result l) ≡ staying pool new l
       go [] = gone (fateOf pool new result) refl []
-      go (it ∷ l) = at (isLess (orderItems pool it result)) (go l)
+      go (it ∷ l) = at (isLess (compareItems pool it result)) (go l)
         where
           at : (t : Bool) → staying pool new (placed pool result l) ≡ staying pool new l
               → staying pool new (cond t (it ∷ placed pool result l) (result ∷ it ∷ l)) ≡ keepBy (fateOf pool new it) it (staying pool new l)
@@ -186,12 +186,12 @@ module _ (pool : List ℕ) where
       → staying pool new (placed pool result its) ≡ placed pool result (staying pool new its)
   unfolding staying placed
   staying-placed new result [] o e = rw e
-  staying-placed new result (it ∷ its) o e = go (isLess (orderItems pool it result)) refl (fateOf pool new it) refl (staying-placed new result its (o .1) e)
+  staying-placed new result (it ∷ its) o e = go (isLess (compareItems pool it result)) refl (fateOf pool new it) refl (staying-placed new result its (o .1) e)
     where
       rest : List ItemWords
       rest = staying pool new its
 
-      go : (t : Bool) → isLess (orderItems pool it result) ≡ t → (f : Fate) → fateOf pool new it ≡ f
+      go : (t : Bool) → isLess (compareItems pool it result) ≡ t → (f : Fate) → fateOf pool new it ≡ f
           → staying pool new (placed pool result its) ≡ placed pool result rest
           → staying pool new (cond t (it ∷ placed pool result its) (result ∷ it ∷ its)) ≡ placed pool result (keepBy f it rest)
       go true p Replaced q r = rw q r
@@ -216,7 +216,7 @@ module _ (pool : List ℕ) where
       → mergedWith pool new cur (placed pool result its) ≡ mergedWith pool new cur its
   unfolding mergedWith placed
   merged-past new result cur [] e = rw e
-  merged-past new result cur (it ∷ its) e = go (isLess (orderItems pool it result)) (λ c. merged-past new result c its e)
+  merged-past new result cur (it ∷ its) e = go (isLess (compareItems pool it result)) (λ c. merged-past new result c its e)
     where
       go : (t : Bool) → ((c : ItemWords) → mergedWith pool new c (placed pool result its) ≡ mergedWith pool new c its)
           → mergedWith pool new cur (cond t (it ∷ placed pool result its) (result ∷ it ∷ its)) ≡ mergedWith pool new (mergeBy pool (fateOf pool new it) cur it) its
@@ -229,9 +229,9 @@ module _ (pool : List ℕ) where
   pub placed-comm : (a b : ItemWords) (its : List ItemWords) → K a < K b → placed pool a (placed pool b its) ≡ placed pool b (placed pool a its)
   unfolding placed
   placed-comm a b [] h = rw (below b a, below a b, le-ltb (K b) (K a) (omega arith), lt-ltb (K a) (K b) h)
-  placed-comm a b (it ∷ its) h = go (isLess (orderItems pool it a)) refl (isLess (orderItems pool it b)) refl (placed-comm a b its h)
+  placed-comm a b (it ∷ its) h = go (isLess (compareItems pool it a)) refl (isLess (compareItems pool it b)) refl (placed-comm a b its h)
     where
-      go : (s : Bool) → isLess (orderItems pool it a) ≡ s → (t : Bool) → isLess (orderItems pool it b) ≡ t
+      go : (s : Bool) → isLess (compareItems pool it a) ≡ s → (t : Bool) → isLess (compareItems pool it b) ≡ t
           → placed pool a (placed pool b its) ≡ placed pool b (placed pool a its)
           → placed pool a (cond t (it ∷ placed pool b its) (b ∷ it ∷ its)) ≡ placed pool b (cond s (it ∷ placed pool a its) (a ∷ it ∷ its))
       go true p true q r = rw (p, q) (ap (λ (l : List ItemWords). it ∷ l) r)
@@ -244,17 +244,17 @@ module _ (pool : List ℕ) where
 
 -- what shows the same, put into lists that do, makes lists that do, in one pool or in two
 module _ (P Q : List ℕ) where
-  pub placed-shown : (a b : ItemWords) (A B : List ItemWords) → shown P a ≡ shown Q b → map (shown P) A ≡ map (shown Q) B
-      → map (shown P) (placed P a A) ≡ map (shown Q) (placed Q b B)
+  pub placed-shown : (a b : ItemWords) (A B : List ItemWords) → shown P a ≡ shown Q b → SameShown P Q A B
+      → SameShown P Q (placed P a A) (placed Q b B)
   unfolding placed
   placed-shown a b [] [] s e = ap₂ _∷_ s e
   placed-shown a b [] (y ∷ B) s e = absurd (omega (arith, ap length e))
   placed-shown a b (x ∷ A) [] s e = absurd (omega (arith, ap length e))
   placed-shown a b (x ∷ A) (y ∷ B) s e =
       let h : shown P x ≡ shown Q y = cc in
-      rw (order-shown P Q x y a b h s) (go (isLess (orderItems Q y b)) (ap₂ _∷_ h (placed-shown a b A B s cc)))
+      rw (order-shown P Q x y a b h s) (go (isLess (compareItems Q y b)) (ap₂ _∷_ h (placed-shown a b A B s cc)))
     where
-      go : (t : Bool) → map (shown P) (x ∷ placed P a A) ≡ map (shown Q) (y ∷ placed Q b B)
-          → map (shown P) (cond t (x ∷ placed P a A) (a ∷ x ∷ A)) ≡ map (shown Q) (cond t (y ∷ placed Q b B) (b ∷ y ∷ B))
+      go : (t : Bool) → SameShown P Q (x ∷ placed P a A) (y ∷ placed Q b B)
+          → SameShown P Q (cond t (x ∷ placed P a A) (a ∷ x ∷ A)) (cond t (y ∷ placed Q b B) (b ∷ y ∷ B))
       go true r = r
       go false r = ap₂ _∷_ s e

@@ -6,16 +6,19 @@ use mathlib.Core.Bool.{Bool, true, false, cond, _||_, _&&_}
 use mathlib.Core.Logic.{_⊎_, inl, inr}
 use mathlib.Core.List.{List, [], _∷_, map}
 use native.Mathlib.Omega.{arith}
-use lib.ListN.{length, length-map}
+use lib.ListN.{length}
 use lib.Dec.{ltb}
+use Rattle.key_order.proofs.Impossible.{impossible}
 use Rattle.key_order.specs.declared.Ordering.the-variants.{Equal}
 use Rattle.query_item.specs.declared.ItemWords.{ItemWords}
-use Rattle.query_item.specs.Items.{itemSize, itemsFrom, shown}
+use Rattle.query_item.specs.Items.{itemSize, itemsFrom, shown, SameShown}
+use Rattle.query_item.proofs.Laws.{length-shown}
 use Rattle.intervals.specs.Lists.{Reordered}
 use Rattle.intervals.proofs.Laws.{All, reordered-two, reordered-by, length-reordered}
-use Rattle.item_check.specs.Checks.{Answer, answered, refused, accepted, mostItems, uprightFault}
+use Rattle.item_check.specs.declared.Refusal.{Refusal}
+use Rattle.item_check.specs.Checks.{Answer, answered, refused, refusedAs, refusal, accepted, mostItems, uprightFault}
 use Rattle.item_lists.specs.Written.{passes}
-use Rattle.insert_order.specs.Order.{orderItems, plain, sameItem}
+use Rattle.insert_order.specs.Order.{compareItems, plain, sameItem}
 use Rattle.insert_order.specs.Refusals.{orderedVerdict}
 use Rattle.insert_order.proofs.Ordered.{Among}
 use Rattle.insert_order.proofs.Accepted.{Ready}
@@ -25,7 +28,8 @@ use Rattle.insert.specs.Insertion.{inserted}
 use Rattle.insert.specs.Answers.{insertAnswer, insertWords}
 use Rattle.insert.specs.Sequence.{insertedAll, nextAnswer, nextWords, insertAllAnswer, insertAllWords, StandsBefore}
 use Rattle.item_lists.proofs.Words.{length-items}
-use Rattle.insert.proofs.Tails.{length-staying, length-inserted}
+use Rattle.insert_merge.proofs.Staying.{length-staying}
+use Rattle.insert.proofs.Tails.{length-inserted}
 use Rattle.insert.proofs.Laws.{insert-accepted, insert-arrival, insert-keeps, insert-either, insert-shown}
 use Rattle.insert.proofs.Called.{room-enough, ready-answer, called-list, called-item, called-items, called-size, called-ready}
 
@@ -45,8 +49,8 @@ module _ (pool : List ℕ) where
 
   -- where it refuses, that is the answer, and the words stay
 
-  module _ (ws : List ℕ) (count : ℕ) (new : ItemWords) (news : List ItemWords) (a b c : ℕ) (e : insertAnswer pool ws count new ≡ refused a b c) where
-    pub end-answer : insertAllAnswer pool ws count (new ∷ news) ≡ refused a b c
+  module _ (ws : List ℕ) (count : ℕ) (new : ItemWords) (news : List ItemWords) (r : Refusal) (e : insertAnswer pool ws count new ≡ refusedAs r) where
+    pub end-answer : insertAllAnswer pool ws count (new ∷ news) ≡ refusedAs r
     unfolding insertAllAnswer
     end-answer = ap (λ (r : Answer ℕ). nextAnswer r (λ n. insertAllAnswer pool (insertWords pool ws count new) n news)) e
 
@@ -63,7 +67,7 @@ module _ (pool : List ℕ) where
   abbrev pub IsPlain : ItemWords → Type 0
   IsPlain x = plain x ≡ true
 
-  all-shown : (news A B : List ItemWords) → map (shown pool) A ≡ map (shown pool) B → map (shown pool) (insertedAll pool news A) ≡ map (shown pool) (insertedAll pool news B)
+  all-shown : (news A B : List ItemWords) → SameShown pool pool A B → SameShown pool pool (insertedAll pool news A) (insertedAll pool news B)
   unfolding insertedAll
   all-shown [] A B e = e
   all-shown (new ∷ news) A B e = all-shown news (inserted pool new A) (inserted pool new B) (insert-shown pool pool new new A B refl e)
@@ -84,11 +88,11 @@ module _ (pool : List ℕ) where
 
   -- inserted into any accepted list they give the same
   abbrev Same : List ItemWords → List ItemWords → Type 0
-  Same xs ys = (its : List ItemWords) → orderedVerdict pool its ≡ accepted → map (shown pool) (insertedAll pool xs its) ≡ map (shown pool) (insertedAll pool ys its)
+  Same xs ys = (its : List ItemWords) → orderedVerdict pool its ≡ accepted → SameShown pool pool (insertedAll pool xs its) (insertedAll pool ys its)
 
   -- 02 §10.1: any number of plain upright items may be inserted in any order: the lists are the same by bytes
   pub inserted-reordered : (xs ys : List ItemWords) → Reordered xs ys → All IsPlain xs → All IsUpright xs → (its : List ItemWords)
-      → orderedVerdict pool its ≡ accepted → map (shown pool) (insertedAll pool xs its) ≡ map (shown pool) (insertedAll pool ys its)
+      → orderedVerdict pool its ≡ accepted → SameShown pool pool (insertedAll pool xs its) (insertedAll pool ys its)
   unfolding insertedAll
   inserted-reordered xs ys r p u = reordered-by (λ A B. Insertable A → Insertable B × Same A B) same exchanged behind further xs ys r (p, u) .1
     where
@@ -125,7 +129,7 @@ module _ (pool : List ℕ) where
       go : (r : Answer ℕ) → insertAnswer pool ws count new ≡ r → nextAnswer r (λ k. insertAllAnswer pool (insertWords pool ws count new) k news) ≡ answered n
           → Begun ws count new news n
       go (answered k) p q = record { many = k; first = p; others = q }
-      go (refused a b c) p q = absurd (let z : _≡_ {A = ℕ} 0 1 = cc in omega arith)
+      go (refusedAs r) p q = impossible cc
 
   -- the items that they leave
   pub all-items : (ws : List ℕ) (count : ℕ) (news : List ItemWords) (n : ℕ) → insertAllAnswer pool ws count news ≡ answered n
@@ -160,14 +164,14 @@ module _ (pool : List ℕ) where
     list-passes new news n e = let b = begun ws count new news n e in called-list pool ws count new (b .many) (b .first) .listed
 
     lists-same : (xs ys : List ItemWords) → Reordered xs ys → All IsPlain xs → (m : ℕ) → insertAllAnswer pool ws count xs ≡ answered m
-        → map (shown pool) (insertedAll pool xs its) ≡ map (shown pool) (insertedAll pool ys its)
+        → SameShown pool pool (insertedAll pool xs its) (insertedAll pool ys its)
     lists-same [] [] r p m e = refl
     lists-same [] (y ∷ ys) r p m e = absurd (omega (arith, length-reordered [] (y ∷ ys) r))
     lists-same (x ∷ xs) ys r p m e = inserted-reordered (x ∷ xs) ys r p (all-upright ws count (x ∷ xs) m e) its (list-passes x xs m e)
 
     -- 02 §10.1: calls with plain items in one order, and with these in another, that answer leave the same items by bytes
     pub insert-reordered : (xs ys : List ItemWords) (m n : ℕ) → Reordered xs ys → All IsPlain xs → insertAllAnswer pool ws count xs ≡ answered m
-        → insertAllAnswer pool ws count ys ≡ answered n → map (shown pool) (leftBy xs m) ≡ map (shown pool) (leftBy ys n)
+        → insertAllAnswer pool ws count ys ≡ answered n → SameShown pool pool (leftBy xs m) (leftBy ys n)
     insert-reordered xs ys m n r p e f =
         ap (map (shown pool)) (all-items ws count xs m e) ∙ lists-same xs ys r p m e ∙ ap (map (shown pool)) (sym (all-items ws count ys n f))
 
@@ -176,15 +180,13 @@ module _ (pool : List ℕ) where
         → insertAllAnswer pool ws count ys ≡ answered n → m ≡ n
     reordered-count xs ys m n r p e f =
         sym (length-items (insertAllWords pool ws count xs) 0 m)
-        ∙ sym (length-map (leftBy xs m) (shown pool))
-        ∙ ap length (insert-reordered xs ys m n r p e f)
-        ∙ length-map (leftBy ys n) (shown pool)
+        ∙ length-shown pool pool (leftBy xs m) (leftBy ys n) (insert-reordered xs ys m n r p e f)
         ∙ length-items (insertAllWords pool ws count ys) 0 n
 
     -- 02 §10.1: two calls with plain items, which answer in both orders, leave the same items by bytes
     pub insert-either-order : (x y : ItemWords) (m n : ℕ) → plain x ≡ true → plain y ≡ true → insertAllAnswer pool ws count (x ∷ y ∷ []) ≡ answered m
         → insertAllAnswer pool ws count (y ∷ x ∷ []) ≡ answered n
-        → (m ≡ n) × (map (shown pool) (leftBy (x ∷ y ∷ []) m) ≡ map (shown pool) (leftBy (y ∷ x ∷ []) n))
+        → (m ≡ n) × SameShown pool pool (leftBy (x ∷ y ∷ []) m) (leftBy (y ∷ x ∷ []) n)
     insert-either-order x y m n p q e f =
         let xs = x ∷ y ∷ [] in
         let ys = y ∷ x ∷ [] in
@@ -192,7 +194,7 @@ module _ (pool : List ℕ) where
 
     -- 02 §10.2: items stand in order of arrival, as `insert-arrival` has it, in what a call that answers leaves
     pub arrival-order : (new it : ItemWords) (n : ℕ) → insertAnswer pool ws count new ≡ answered n → Among it its → sameItem pool new it ≡ false
-        → plain new && plain it ≡ false → orderItems pool it (mergedWith pool new new its) ≡ Equal
+        → plain new && plain it ≡ false → compareItems pool it (mergedWith pool new new its) ≡ Equal
         → StandsBefore (mergedWith pool new new its) it (itemsFrom (insertWords pool ws count new) 0 n)
     arrival-order new it n e m d w o =
         rw (called-items pool ws count new n e) (insert-arrival pool new it its (called-list pool ws count new n e .listed) m d w o)
@@ -243,7 +245,7 @@ module _ (pool : List ℕ) where
       go : (insertAnswer pool ws count new ≡ answered n) ⊎ (insertAnswer pool ws count new ≡ refused 6 0 0)
           → ((k : ℕ) → Ready pool (insertWords pool ws count new) k → RoomDecides (insertWords pool ws count new) k news) → RoomDecides ws count (new ∷ news)
       go (inl e) f = rest e (f n (called-ready pool ws count new n e))
-      go (inr e) f = inr (end-answer ws count new news 6 0 0 e)
+      go (inr e) f = inr (end-answer ws count new news (refusal 6 0 0) e)
 
   -- with a place for each of them none is
   pub all-enough : (ws : List ℕ) (count : ℕ) (news : List ItemWords) → Ready pool ws count → All IsUpright news

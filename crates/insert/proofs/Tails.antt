@@ -10,10 +10,11 @@ use lib.ListN.{length, take, drop, replicate, length-append, length-drop, drop-o
 use lib.Seq.{take-all, drop-drop}
 use lib.Dec.{ltb}
 use borrow.Author.Tests.{ltb-false}
+use Rattle.key_order.proofs.Impossible.{impossible}
 use Rattle.key_order.specs.Order.{isLess}
 use Rattle.query_item.specs.declared.ItemWords.{ItemWords}
 use Rattle.query_item.specs.Items.{itemSize, itemAt, itemsFrom, flatAll}
-use Rattle.insert_order.specs.Order.{orderItems}
+use Rattle.insert_order.specs.Order.{compareItems}
 use Rattle.insert_merge.specs.declared.Fate.{Fate}
 use Rattle.insert_merge.specs.declared.Fate.the-variants.{Replaced, Stays, Merges}
 use Rattle.insert_merge.specs.Merge.{fateOf, keepBy, staying, mergedWith, isStaying}
@@ -24,20 +25,10 @@ use Rattle.item_lists.proofs.Words.{item-drop, items-drop, flat-append, flat-fr
 
 -- ---- how many items there are
 
-length-keep : (f : Fate) (it : ItemWords) (its : List ItemWords) → length (keepBy f it its) ≤ suc (length its)
-length-keep Replaced it its = omega arith
-length-keep Stays it its = omega arith
-length-keep Merges it its = omega arith
-
-pub length-staying : (pool : List ℕ) (new : ItemWords) (its : List ItemWords) → length (staying pool new its) ≤ length its
-unfolding staying
-length-staying pool new [] = omega arith
-length-staying pool new (it ∷ its) = omega (arith, length-keep (fateOf pool new it) it (staying pool new its), length-staying pool new its)
-
 pub length-placed : (pool : List ℕ) (result : ItemWords) (its : List ItemWords) → length (placed pool result its) ≡ length its + 1
 unfolding placed
 length-placed pool result [] = refl
-length-placed pool result (it ∷ its) = go (isLess (orderItems pool it result)) (length-placed pool result its)
+length-placed pool result (it ∷ its) = go (isLess (compareItems pool it result)) (length-placed pool result its)
   where
     go : (t : Bool) → length (placed pool result its) ≡ length its + 1
         → length (cond t (it ∷ placed pool result its) (result ∷ it ∷ its)) ≡ suc (length its) + 1
@@ -70,9 +61,9 @@ module _ (pool : List ℕ) (new result : ItemWords) where
   pub put-front : (its : List ItemWords) → put its ≡ take (first its) its ++ put (drop (first its) its)
   unfolding firstChanged staying placed
   put-front [] = refl
-  put-front (it ∷ its) = go (fateOf pool new it) refl (isLess (orderItems pool it result)) refl (put-front its)
+  put-front (it ∷ its) = go (fateOf pool new it) refl (isLess (compareItems pool it result)) refl (put-front its)
     where
-      go : (f : Fate) → fateOf pool new it ≡ f → (t : Bool) → isLess (orderItems pool it result) ≡ t → put its ≡ take (first its) its ++ put (drop (first its) its)
+      go : (f : Fate) → fateOf pool new it ≡ f → (t : Bool) → isLess (compareItems pool it result) ≡ t → put its ≡ take (first its) its ++ put (drop (first its) its)
           → placed pool result (keepBy f it (staying pool new its))
           ≡ take (cond (isStaying f && t) (suc (first its)) 0) (it ∷ its) ++ put (drop (cond (isStaying f && t) (suc (first its)) 0) (it ∷ its))
       go Stays e true h r = rw h (ap (λ (l : List ItemWords). it ∷ l) r)
@@ -174,5 +165,5 @@ pub room-is : (m k n : ℕ) → ltb m n || ltb k n ≡ false → n ≤ m
 room-is m k n e = go (ltb m n) (ltb k n) refl e
   where
     go : (t u : Bool) → ltb m n ≡ t → t || u ≡ false → n ≤ m
-    go true u p q = absurd (let z : _≡_ {A = ℕ} 0 1 = cc in omega arith)
+    go true u p q = impossible cc
     go false u p q = ltb-false m n p

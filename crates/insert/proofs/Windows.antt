@@ -10,12 +10,13 @@ use native.Mathlib.Nat.{le-refl}
 use native.Mathlib.Decide.{decLt}
 use lib.ListN.{length, length-append}
 use borrow.Author.Tests.{ltb-true, ltb-false, lt-ltb, le-ltb}
+use Rattle.key_order.proofs.Impossible.{impossible}
 use Rattle.key_order.specs.Order.{isLess}
 use Rattle.key_order.proofs.Line.{size}
 use Rattle.query_item.specs.declared.ItemWords.{ItemWords}
 use Rattle.query_item.specs.Items.{itemAt, itemsFrom}
 use Rattle.item_check.specs.Checks.{accepted}
-use Rattle.insert_order.specs.Order.{orderItems, plain, endsBelow}
+use Rattle.insert_order.specs.Order.{compareItems, plain, endsBelow}
 use Rattle.insert_order.specs.Refusals.{inputVerdict}
 use Rattle.insert_order.proofs.Ranked.{lo, hi, itemRank, order-less, rank-start, same-rank, same-item-rank}
 use Rattle.insert_order.proofs.Ordered.{Among, accepted-ordered, clash-says, ordered-at}
@@ -41,16 +42,16 @@ module _ (pool : List ℕ) where
   fits : size pool ≤ size pool
   fits = le-refl (size pool)
 
-  less-ranks : (x y : ItemWords) → isLess (orderItems pool x y) ≡ true → K x < K y
+  less-ranks : (x y : ItemWords) → isLess (compareItems pool x y) ≡ true → K x < K y
   less-ranks x y e = ltb-true (K x) (K y) (sym (order-less (size pool) pool fits x y) ∙ e)
 
-  other-ranks : (x y : ItemWords) → isLess (orderItems pool x y) ≡ false → K y ≤ K x
+  other-ranks : (x y : ItemWords) → isLess (compareItems pool x y) ≡ false → K y ≤ K x
   other-ranks x y e = ltb-false (K x) (K y) (sym (order-less (size pool) pool fits x y) ∙ e)
 
-  ranks-less : (x y : ItemWords) → K x < K y → isLess (orderItems pool x y) ≡ true
+  ranks-less : (x y : ItemWords) → K x < K y → isLess (compareItems pool x y) ≡ true
   ranks-less x y h = order-less (size pool) pool fits x y ∙ lt-ltb (K x) (K y) h
 
-  ranks-other : (x y : ItemWords) → K y ≤ K x → isLess (orderItems pool x y) ≡ false
+  ranks-other : (x y : ItemWords) → K y ≤ K x → isLess (compareItems pool x y) ≡ false
   ranks-other x y h = order-less (size pool) pool fits x y ∙ le-ltb (K x) (K y) h
 
 -- ---- what is below an item
@@ -63,8 +64,8 @@ module _ (pool ws : List ℕ) (count : ℕ) (it : ItemWords) where
   pub record Halved (low high : ℕ) : Type 0 where
     pub meets : low ≤ high
     pub within : high ≤ count
-    pub below : (j : ℕ) → j < low → isLess (orderItems pool (at j) it) ≡ true
-    pub others : (j : ℕ) → high ≤ j → j < count → isLess (orderItems pool (at j) it) ≡ false
+    pub below : (j : ℕ) → j < low → isLess (compareItems pool (at j) it) ≡ true
+    pub others : (j : ℕ) → high ≤ j → j < count → isLess (compareItems pool (at j) it) ≡ false
 
   pub halved-start : Halved 0 count
   halved-start =
@@ -76,7 +77,7 @@ module _ (pool ws : List ℕ) (count : ℕ) (it : ItemWords) where
       }
 
   module _ (low high mid : ℕ) (up : Ascending pool ws count) (v : Halved low high) (h : low ≤ mid) (l : mid < high) {x : ItemWords} (p : x ≡ at mid) where
-    pub halved-above : isLess (orderItems pool x it) ≡ true → Halved (mid + 1) high
+    pub halved-above : isLess (compareItems pool x it) ≡ true → Halved (mid + 1) high
     halved-above e =
         record {
           meets = omega arith;
@@ -88,7 +89,7 @@ module _ (pool ws : List ℕ) (count : ℕ) (it : ItemWords) where
           others = v .others;
         }
 
-    pub halved-below : isLess (orderItems pool x it) ≡ false → Halved low mid
+    pub halved-below : isLess (compareItems pool x it) ≡ false → Halved low mid
     halved-below e =
         record {
           meets = h;
@@ -151,10 +152,10 @@ module _ (pool ws : List ℕ) (count : ℕ) (new : ItemWords) (ok : inputVerdict
         ranks-stay (size pool) pool (fits pool) new (itemAt ws j) (λ s. omega (arith, same-item-rank (size pool) pool new (itemAt ws j) s, low j h)) (λ a b. inr (f a b))
 
     pub stay-wrapped : plain new ≡ false → Stay pool ws new 0 place
-    stay-wrapped e j h l = below-stays j l (λ a b. absurd (let z : _≡_ {A = ℕ} 0 1 = cc in omega arith))
+    stay-wrapped e j h l = below-stays j l (λ a b. impossible cc)
 
     pub stay-none : (i : ℕ) → i ≤ 0 → Wrapped ws place i → Stay pool ws new 0 place
-    stay-none i z w j h l = below-stays j l (λ a b. absurd (let f = w j (omega arith) l in let z : _≡_ {A = ℕ} 0 1 = cc in omega arith))
+    stay-none i z w j h l = below-stays j l (λ a b. absurd (let f = w j (omega arith) l in impossible cc))
 
     -- the last plain one
     module _ (i : ℕ) (g : 0 < i) (h : i ≤ place) {x : ItemWords} (p : x ≡ itemAt ws (i - 1)) (e : plain x ≡ true) where
@@ -171,7 +172,7 @@ module _ (pool ws : List ℕ) (count : ℕ) (new : ItemWords) (ok : inputVerdict
       stay-below w f j k l = elim (decLt j (i - 1)) [
         | yes m ↦ stay-plain j k m
         | no m ↦ below-stays j l (λ a b. elim (decLt (i - 1) j) [
-          | yes n ↦ absurd (let g = w j (omega arith) l in let z : _≡_ {A = ℕ} 0 1 = cc in omega arith)
+          | yes n ↦ absurd (let g = w j (omega arith) l in impossible cc)
           | no n ↦ let s : j ≡ i - 1 = omega arith in rw s (ends-ranks (size pool) pool (fits pool) (itemAt ws (i - 1)) new (rw p at f))
         ])
       ]

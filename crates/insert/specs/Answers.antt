@@ -21,8 +21,8 @@ insertedOf (inserted.Refused r) = refusedAs r
 -- ---- the room
 
 -- 01 m5.9: 6 exactly if the final count exceeds the buffer or 2,048
-abbrev pub roomAnswer : List ℕ → ℕ → Answer ℕ
-roomAnswer ws n = cond (passes n ws || ltb mostItems n) (refused 6 0 0) (answered n)
+abbrev pub insertRoomAnswer : List ℕ → ℕ → Answer ℕ
+insertRoomAnswer ws n = cond (passes n ws || ltb mostItems n) (refused 6 0 0) (answered n)
 
 -- ---- the words
 
@@ -39,7 +39,7 @@ listAfter pool ws count new = insertion.inserted pool new (itemsFrom ws 0 count)
 
 -- 01 m5.9: where the checks have passed: the room decides
 abbrev pub checkedAnswer : List ℕ → List ℕ → ℕ → ItemWords → Answer ℕ
-checkedAnswer pool ws count new = roomAnswer ws (length (listAfter pool ws count new))
+checkedAnswer pool ws count new = insertRoomAnswer ws (length (listAfter pool ws count new))
 
 abbrev pub checkedWords : List ℕ → List ℕ → ℕ → ItemWords → List ℕ
 checkedWords pool ws count new = wordsBy (checkedAnswer pool ws count new) ws (laid ws count (listAfter pool ws count new))

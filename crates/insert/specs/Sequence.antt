@@ -3,7 +3,7 @@ use Prim.Native.Nat.{ℕ}
 use mathlib.Core.Path.{_≡_}
 use mathlib.Core.List.{List, [], _∷_, _++_}
 use Rattle.query_item.specs.declared.ItemWords.{ItemWords}
-use Rattle.item_check.specs.Checks.{Answer, answered, refused}
+use Rattle.item_check.specs.Checks.{Answer, answered, refusedAs}
 use Rattle.insert.specs.Insertion.{inserted}
 use Rattle.insert.specs.Answers.{insertAnswer, insertWords}
 
@@ -16,11 +16,11 @@ insertedAll pool (new ∷ news) its = insertedAll pool news (inserted pool new i
 
 abbrev pub nextAnswer : Answer ℕ → (ℕ → Answer ℕ) → Answer ℕ
 nextAnswer (answered n) next = next n
-nextAnswer (refused number side index) next = refused number side index
+nextAnswer (refusedAs r) next = refusedAs r
 
 abbrev pub nextWords : Answer ℕ → List ℕ → (ℕ → List ℕ) → List ℕ
 nextWords (answered n) ws next = next n
-nextWords (refused number side index) ws next = ws
+nextWords (refusedAs r) ws next = ws
 
 unfoldable pub insertAllAnswer : List ℕ → List ℕ → ℕ → List ItemWords → Answer ℕ
 insertAllAnswer pool ws count [] = answered count

@@ -12,7 +12,7 @@ ghost use lib.ListN.{length};
 ghost use Rattle.query_item.specs.Items.{itemSize, itemsFrom};
 ghost use Rattle.item_check.specs.Checks.{accepted};
 ghost use Rattle.insert_order.specs.Refusals.{inputVerdict};
-ghost use Rattle.insert_merge.specs.Merge.{staying, mergedWith};
+ghost use Rattle.insert_merge.specs.Merge.{Finds};
 ghost use Rattle.insert.specs.Answers.{insertedOf, insertAnswer, insertWords, checkedAnswer, checkedWords};
 ghost use Rattle.insert.specs.Passes.{Asked};
 use crate::tail::first_changed;
@@ -24,6 +24,7 @@ use insert_order::check_input;
 use item_check::Checked;
 use item_check::MOST_ITEMS;
 use item_check::Refusal;
+use item_check::refusal_of;
 use item_words::ITEM_SIZE;
 use query_item::ItemWords;
 
@@ -61,11 +62,7 @@ fn insert_checked(pool: &[u8], words: &mut [u32], count: usize, item: ItemWords)
     let result = found.result;
     let after = found.stay + 1;
     if (words.len() / ITEM_SIZE < after) | (MOST_ITEMS < after) {
-        return Inserted::Refused(Refusal {
-            number: 6,
-            side: 0,
-            index: 0,
-        });
+        return Inserted::Refused(refusal_of(6, 0, 0));
     }
     let first = first_changed(pool, words, count, from, item, result);
     let at = ITEM_SIZE * first;
@@ -90,7 +87,7 @@ fn find_result(
     to: usize,
 ) -> Found
     requires { ⌜ Asked (now pool) (now words) count item from to ⌝ }
-    ensures { λ r. ⌜ (r .result ≡ mergedWith (now (pool .entry)) item item (itemsFrom (now (words .entry)) 0 count)) × (r .stay ≡ length (staying (now (pool .entry)) item (itemsFrom (now (words .entry)) 0 count))) ⌝ }
+    ensures { λ r. ⌜ Finds (now (pool .entry)) item (itemsFrom (now (words .entry)) 0 count) r ⌝ }
 {
     let found = find_merged(pool, words, from, to, item);
     let result = found.result;

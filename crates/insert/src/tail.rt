@@ -3,18 +3,17 @@ ghost use mathlib.Core.Path.{_≡_};
 ghost use Prim.Native.Nat.{_*_, _/_, _≤_, _<_};
 ghost use lib.ListN.{length};
 ghost use Rattle.query_item.specs.Items.{itemSize, itemsFrom};
-ghost use Rattle.insert_merge.specs.Merge.{staying};
-ghost use Rattle.insert.specs.Insertion.{placed};
 ghost use Rattle.insert.specs.Answers.{laid};
-ghost use Rattle.insert.specs.Passes.{Ascending, Stay, keepsPlace, firstChanged, staysAt, pick, goesFirst, zeroItem, Moved, raised, cleared};
+ghost use Rattle.insert.specs.Passes.{Ascending, Stay, keepsPlace, firstChanged, staysAt, pick, tailAfter, TailFits, goesFirst, zeroItem, Moved, raised, cleared};
 use crate::window::count_below;
-use boundary::is_less;
 use insert_merge::fate_of;
 use insert_merge::is_staying;
-use insert_order::order_items;
+use insert_order::compare_items;
 use item_words::ITEM_SIZE;
 use item_words::item_at;
+use item_words::make_item;
 use item_words::write_item;
+use key_order::is_less;
 use query_item::ItemWords;
 use query_item::KeyAt;
 
@@ -43,7 +42,7 @@ pub(crate) fn first_changed(
 fn keeps_place(pool: &[u8], item: ItemWords, result: ItemWords, old: ItemWords) -> bool
     ensures { λ r. ⌜ r ≡ keepsPlace (now (pool .entry)) item result old ⌝ }
 {
-    is_staying(fate_of(pool, item, old)) & is_less(order_items(pool, old, result))
+    is_staying(fate_of(pool, item, old)) & is_less(compare_items(pool, old, result))
 }
 
 // Takes out what does not stay of count items, puts the result in, and sets the words that this frees to 0. From the index asked on all stay.
@@ -55,8 +54,8 @@ pub(crate) fn rewrite(
     item: ItemWords,
     result: ItemWords,
 )
-    requires { ⌜ (count ≤ length (now tail) / itemSize) × (length (placed (now pool) result (staying (now pool) item (itemsFrom (now tail) 0 count))) ≤ length (now tail) / itemSize) × Stay (now pool) (now tail) item asked count ⌝ }
-    ensures { λ _. ⌜ now (tail .exit) ≡ laid (now (tail .entry)) count (placed (now (pool .entry)) result (staying (now (pool .entry)) item (itemsFrom (now (tail .entry)) 0 count))) ⌝ }
+    requires { ⌜ TailFits (now pool) (now tail) count asked item result ⌝ }
+    ensures { λ _. ⌜ now (tail .exit) ≡ laid (now (tail .entry)) count (tailAfter (now (pool .entry)) item result (now (tail .entry)) count) ⌝ }
 {
     let end = move_items(pool, tail, count, asked, item, result);
     clear_items(tail, end, count);
@@ -72,8 +71,9 @@ fn move_items(
     item: ItemWords,
     result: ItemWords,
 ) -> usize
-    requires { ⌜ (count ≤ length (now tail) / itemSize) × (length (placed (now pool) result (staying (now pool) item (itemsFrom (now tail) 0 count))) ≤ length (now tail) / itemSize) × Stay (now pool) (now tail) item asked count ⌝ }
-    ensures { λ r. ⌜ (r ≡ length (placed (now (pool .entry)) result (staying (now (pool .entry)) item (itemsFrom (now (tail .entry)) 0 count)))) × Moved (now (tail .entry)) count (placed (now (pool .entry)) result (staying (now (pool .entry)) item (itemsFrom (now (tail .entry)) 0 count))) (now (tail .exit)) ⌝ }
+    requires { ⌜ TailFits (now pool) (now tail) count asked item result ⌝ }
+    ensures { λ r. ⌜ (r ≡ length (tailAfter (now (pool .entry)) item result (now (tail .entry)) count))
+        × Moved (now (tail .entry)) count (tailAfter (now (pool .entry)) item result (now (tail .entry)) count) (now (tail .exit)) ⌝ }
 {
     let mut hand = result;
     let mut is_placed = false;
@@ -129,7 +129,7 @@ fn goes_first(pool: &[u8], is_placed: bool, old: ItemWords, hand: ItemWords) -> 
     if is_placed {
         return false;
     }
-    is_less(order_items(pool, old, hand))
+    is_less(compare_items(pool, old, hand))
 }
 
 fn pick_item(t: bool, x: ItemWords, y: ItemWords) -> ItemWords
@@ -157,10 +157,5 @@ fn zero_item() -> ItemWords
         offset: 0,
         length: 0,
     };
-    ItemWords {
-        code: 0,
-        wrapper: 0,
-        start: none,
-        end: none,
-    }
+    make_item(0, 0, none, none)
 }

@@ -4,11 +4,11 @@ ghost use Prim.Native.Nat.{_≤_};
 ghost use Rattle.item_check.specs.Checks.{accepted};
 ghost use Rattle.insert_order.specs.Refusals.{inputVerdict};
 ghost use Rattle.insert.specs.Passes.{Ascending, Below, Stay, Asked};
-use boundary::is_less;
+use insert_order::compare_items;
 use insert_order::ends_below;
 use insert_order::is_plain;
-use insert_order::order_items;
 use item_words::item_at;
+use key_order::is_less;
 use query_item::ItemWords;
 
 // The items from an index up to another.
@@ -38,7 +38,7 @@ pub(crate) fn count_below(pool: &[u8], words: &[u32], count: usize, item: ItemWo
     let mut high = count;
     while low < high {
         let mid = low + (high - low) / 2;
-        if is_less(order_items(pool, item_at(words, mid), item)) {
+        if is_less(compare_items(pool, item_at(words, mid), item)) {
             low = mid + 1;
         } else {
             high = mid;

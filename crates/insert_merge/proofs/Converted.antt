@@ -4,16 +4,17 @@ use Prim.Native.Nat.{ℕ}
 use mathlib.Core.Path.{_≡_, refl, sym, ap, _∙_}
 use mathlib.Core.Bool.{true}
 use mathlib.Core.Logic.{_⊎_, inl, inr}
-use mathlib.Core.List.{List, [], _∷_, map}
+use mathlib.Core.List.{List, [], _∷_}
 use native.Mathlib.Omega.{arith}
 use native.Mathlib.Nat.{le-refl}
 use lib.ListN.{length}
+use Rattle.key_order.proofs.Impossible.{impossible}
 use Rattle.key_order.proofs.Line.{size}
 use Rattle.query_item.specs.declared.ItemWords.{ItemWords}
 use Rattle.query_item.specs.declared.RangeSet.{RangeSet}
 use Rattle.query_item.specs.declared.MaybeItem.{MaybeItem}
 use Rattle.query_item.specs.declared.MaybeItem.the-variants.{NoItem, Item}
-use Rattle.query_item.specs.Items.{shown}
+use Rattle.query_item.specs.Items.{shown, SameShown}
 use Rattle.query_item.specs.Boundaries.{boundaryOf, compareIn, rangeOf, toQueryItem}
 use Rattle.query_item.proofs.Laws.{query-words, Keeps, item-keeps, told, Tells, item-told, shown-range, told-same}
 use Rattle.insert_order.specs.Order.{sameItem}
@@ -62,8 +63,8 @@ module _ (pool : List ℕ) where
           later p (inr n) e = a p n e
 
       go : (f : Fate) → fateOf pool new it ≡ f → Converted (mergedWith pool new cur its) ⊎ Alone pool new its → Whole (mergeBy pool f cur it)
-      go Replaced e r = more (λ g. let z : _≡_ {A = ℕ} 0 1 = cc in omega arith) r
-      go Stays e r = more (λ g. let z : _≡_ {A = ℕ} 0 1 = cc in omega arith) r
+      go Replaced e r = more (λ g. impossible cc) r
+      go Stays e r = more (λ g. impossible cc) r
       go Merges e r = inl (merged-keeps pool Converted new (merged pool cur it) its (merged-shows cur it .1) (λ c x m g p. merged-shows c x .1))
 
   -- an item equal to a converted one is converted
@@ -91,7 +92,7 @@ module _ (P Q : List ℕ) where
       let high = chosen-shown P Q (compareIn Q (D .end) (B .end)) (A .end) (B .end) (C .end) (D .end) (q .1) (p .1) in
       rw (merged-shows P c a .0, merged-shows Q d b .0, p .0, p .1, q .0, q .1, low, high)
 
-  pub result-shown : (x y c d : ItemWords) (A B : List ItemWords) → shown P x ≡ shown Q y → shown P c ≡ shown Q d → map (shown P) A ≡ map (shown Q) B
+  pub result-shown : (x y c d : ItemWords) (A B : List ItemWords) → shown P x ≡ shown Q y → shown P c ≡ shown Q d → SameShown P Q A B
       → shown P (mergedWith P x c A) ≡ shown Q (mergedWith Q y d B)
   unfolding mergedWith
   result-shown x y c d [] [] s t e = t

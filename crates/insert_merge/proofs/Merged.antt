@@ -7,6 +7,7 @@ use mathlib.Core.Logic.{_⊎_, inl, inr, ⊎-elim}
 use mathlib.Core.List.{List, [], _∷_}
 use native.Mathlib.Omega.{arith}
 use borrow.Author.Tests.{ltb-true, ltb-false, lt-ltb}
+use Rattle.key_order.proofs.Impossible.{impossible}
 use Rattle.key_order.specs.declared.Ordering.{Ordering}
 use Rattle.key_order.specs.declared.Ordering.the-variants.{Less, Equal, Greater}
 use Rattle.key_order.specs.Order.{smaller}
@@ -46,13 +47,13 @@ pub record Meets (pool : List ℕ) (new it : ItemWords) : Type 0 where
   pub not-below : endsBelow pool new it ≡ false
   pub not-above : endsBelow pool it new ≡ false
 
-pub record Apart (pool : List ℕ) (new it : ItemWords) : Type 0 where
+pub record Untouched (pool : List ℕ) (new it : ItemWords) : Type 0 where
   pub other : sameItem pool new it ≡ false
   pub disjoint : plain new ≡ true → plain it ≡ true → (endsBelow pool new it ≡ true) ⊎ (endsBelow pool it new ≡ true)
 
 abbrev pub FateSays : List ℕ → ItemWords → ItemWords → Fate → Type 0
 FateSays pool new it Replaced = sameItem pool new it ≡ true
-FateSays pool new it Stays = Apart pool new it
+FateSays pool new it Stays = Untouched pool new it
 FateSays pool new it Merges = Meets pool new it
 
 pub fate-says : (pool : List ℕ) (new it : ItemWords) → FateSays pool new it (fateOf pool new it)
@@ -67,22 +68,22 @@ fate-says pool new it =
     go false e true f true g true h a i = record { other = e; disjoint = λ x y. inl h }
     go false e true f true g false h true i = record { other = e; disjoint = λ x y. inr i }
     go false e true f true g false h false i = record { new-plain = f; it-plain = g; not-below = h; not-above = i }
-    go false e true f false g b h a i = record { other = e; disjoint = λ x y. absurd (let z : _≡_ {A = ℕ} 0 1 = cc in omega arith) }
-    go false e false f q g b h a i = record { other = e; disjoint = λ x y. absurd (let z : _≡_ {A = ℕ} 0 1 = cc in omega arith) }
+    go false e true f false g b h a i = record { other = e; disjoint = λ x y. impossible cc }
+    go false e false f q g b h a i = record { other = e; disjoint = λ x y. impossible cc }
 
 pub fate-is : (pool : List ℕ) (new it : ItemWords) {f : Fate} → fateOf pool new it ≡ f → FateSays pool new it f
 fate-is pool new it e = rw e at (fate-says pool new it)
 
-apart-fate : (pool : List ℕ) (new it : ItemWords) → Apart pool new it → fateOf pool new it ≡ Stays
+untouched-fate : (pool : List ℕ) (new it : ItemWords) → Untouched pool new it → fateOf pool new it ≡ Stays
 unfolding fateOf
-apart-fate pool new it a =
+untouched-fate pool new it a =
     rw (a .other) (go (plain new) refl (plain it) refl (endsBelow pool new it) refl (endsBelow pool it new) refl)
   where
     go : (p : Bool) → plain new ≡ p → (q : Bool) → plain it ≡ q → (b : Bool) → endsBelow pool new it ≡ b → (c : Bool) → endsBelow pool it new ≡ c
         → cond (not (p && q)) Stays (cond (b || c) Stays Merges) ≡ Stays
     go true f true g true h c i = refl
     go true f true g false h true i = refl
-    go true f true g false h false i = absurd (⊎-elim (λ e. let z : _≡_ {A = ℕ} 0 1 = cc in omega arith) (λ e. let z : _≡_ {A = ℕ} 0 1 = cc in omega arith) (a .disjoint f g))
+    go true f true g false h false i = absurd (⊎-elim (λ e. impossible cc) (λ e. impossible cc) (a .disjoint f g))
     go true f false g b h c i = refl
     go false f q g b h c i = refl
 
@@ -184,8 +185,8 @@ module _ (n : ℕ) (pool : List ℕ) where
 
     pub hull-says : (cur it : ItemWords) → Hull cur it
     hull-says cur it =
-        let p = item-sides pool n h (queryItem cur) in
-        let q = item-sides pool n h (queryItem it) in
+        let p = item-sides (queryItem cur) in
+        let q = item-sides (queryItem it) in
         let s = smaller-start (rangeOf cur .start) (rangeOf it .start) (p .0) (q .0) in
         let e = larger-end (rangeOf cur .end) (rangeOf it .end) (p .1) (q .1) in
         record { starts = s .0; ends = e .0; low = s .1; high = e .1 }
@@ -211,7 +212,7 @@ module _ (n : ℕ) (pool : List ℕ) where
     -- an item stays that is not equal to the new one and, where both are plain, lies apart from it
     pub ranks-stay : (new it : ItemWords) → (sameItem pool new it ≡ true → ⊥) → (plain new ≡ true → plain it ≡ true → (E new < S it) ⊎ (E it < S new))
         → fateOf pool new it ≡ Stays
-    ranks-stay new it f g = apart-fate pool new it (record { other = other (sameItem pool new it) refl; disjoint = λ p q. side (g p q) })
+    ranks-stay new it f g = untouched-fate pool new it (record { other = other (sameItem pool new it) refl; disjoint = λ p q. side (g p q) })
       where
         other : (b : Bool) → sameItem pool new it ≡ b → b ≡ false
         other true e = absurd (f e)

@@ -8,6 +8,7 @@ use mathlib.Core.List.{List, [], _∷_}
 use native.Mathlib.Omega.{arith}
 use native.Mathlib.Nat.{le-refl}
 use lib.Dec.{eqb}
+use Rattle.key_order.proofs.Impossible.{impossible}
 use Rattle.key_order.proofs.Line.{size}
 use Rattle.query_item.specs.declared.ItemWords.{ItemWords}
 use Rattle.insert_order.specs.Order.{plain, sameItem}
@@ -94,9 +95,9 @@ module _ (pool : List ℕ) where
 
       go : (f : Fate) → fateOf pool new it ≡ f → (p ≡ it) ⊎ Among p its → ((c : ItemWords) → Among p its → Enclosed p (mergedWith pool new c its))
           → Enclosed p (mergedWith pool new (mergeBy pool f cur it) its)
-      go Replaced g (inl s) r = absurd (let q = here Replaced g s in let z : _≡_ {A = ℕ} 0 1 = cc in omega arith)
+      go Replaced g (inl s) r = absurd (let q = here Replaced g s in impossible cc)
       go Replaced g (inr n) r = r cur n
-      go Stays g (inl s) r = absurd (let q = here Stays g s in let z : _≡_ {A = ℕ} 0 1 = cc in omega arith)
+      go Stays g (inl s) r = absurd (let q = here Stays g s in impossible cc)
       go Stays g (inr n) r = r cur n
       go Merges g (inl s) r =
           let w = merged-wider (size pool) pool fits new (merged pool cur it) its in

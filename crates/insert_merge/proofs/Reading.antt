@@ -1,17 +1,16 @@
 -- How the passes that read go over a list, a turn at a time: what is left of it at an index. Each law takes what the turn's calls gave.
 -- Assumes nothing.
-use Prim.Native.Nat.{ℕ, suc, _+_, _-_, _≤_, _<_}
+use Prim.Native.Nat.{ℕ, _+_, _-_, _≤_, _<_}
 use mathlib.Core.Path.{_≡_}
-use mathlib.Core.Bool.{Bool, true, false}
+use mathlib.Core.Bool.{Bool}
 use mathlib.Core.List.{List}
-use native.Mathlib.Omega.{arith}
 use lib.ListN.{length}
 use Rattle.query_item.specs.declared.ItemWords.{ItemWords}
 use Rattle.query_item.specs.Items.{itemAt, itemsFrom}
 use Rattle.item_check.proofs.Scans.{items-end, items-more}
 use Rattle.insert_merge.specs.declared.Fate.{Fate}
-use Rattle.insert_merge.specs.declared.Fate.the-variants.{Replaced, Stays, Merges}
-use Rattle.insert_merge.specs.Merge.{fateOf, keepBy, staying, mergeBy, mergedWith, isStaying, oneIf}
+use Rattle.insert_merge.specs.Merge.{fateOf, staying, mergeBy, mergedWith, isStaying, oneIf}
+use Rattle.insert_merge.proofs.Staying.{length-keep}
 
 module _ (pool ws : List ℕ) (i count : ℕ) where
   abbrev left : ℕ → List ItemWords
@@ -30,11 +29,6 @@ module _ (pool ws : List ℕ) (i count : ℕ) where
 
   -- ---- how many stay
 
-  length-keep : (f : Fate) (it : ItemWords) (its : List ItemWords) → length (keepBy f it its) ≡ oneIf (isStaying f) + length its
-  length-keep Replaced it its = omega arith
-  length-keep Stays it its = omega arith
-  length-keep Merges it its = omega arith
-
   pub stay-more : (new : ItemWords) {old : ItemWords} {fate : Fate} {t : Bool} {n : ℕ} → i < count → old ≡ itemAt ws i → fate ≡ fateOf pool new old
       → t ≡ isStaying fate → n ≡ oneIf t → length (staying pool new (left i)) ≡ n + length (staying pool new (left (i + 1)))
   unfolding staying
@@ -44,7 +38,3 @@ module _ (pool ws : List ℕ) (i count : ℕ) where
   pub stay-end : (new : ItemWords) → count ≤ i → length (staying pool new (left i)) ≡ 0
   unfolding staying
   stay-end new h = rw (items-end ws i count h)
-
-pub one-at-most : (t : Bool) {n : ℕ} → n ≡ oneIf t → n ≤ 1
-one-at-most true e = omega arith
-one-at-most false e = omega arith

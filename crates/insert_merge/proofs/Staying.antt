@@ -1,19 +1,31 @@
 -- What stays of a list beside a new item, beside two of them, and what then merges. Assumes nothing.
-use Prim.Native.Nat.{ℕ, _≤_}
+use Prim.Native.Nat.{ℕ, _+_, _≤_}
 use mathlib.Core.Path.{_≡_, refl, sym, ap, ap₂, _∙_}
+use mathlib.Core.Bool.{Bool, true, false}
 use mathlib.Core.Logic.{_⊎_, inl, inr}
-use mathlib.Core.List.{List, [], _∷_, map}
+use mathlib.Core.List.{List, [], _∷_}
 use native.Mathlib.Omega.{arith}
 use lib.ListN.{length}
+use Rattle.key_order.proofs.Impossible.{impossible}
 use Rattle.key_order.proofs.Line.{size}
 use Rattle.query_item.specs.declared.ItemWords.{ItemWords}
-use Rattle.query_item.specs.Items.{shown}
+use Rattle.query_item.specs.Items.{shown, SameShown}
 use Rattle.insert_order.proofs.Ranked.{itemRank}
 use Rattle.insert_order.proofs.Ordered.{Among, Pairwise, Sorted}
 use Rattle.insert_merge.specs.declared.Fate.{Fate}
 use Rattle.insert_merge.specs.declared.Fate.the-variants.{Replaced, Stays, Merges}
-use Rattle.insert_merge.specs.Merge.{fateOf, keepBy, staying, mergeBy, mergedWith}
+use Rattle.insert_merge.specs.Merge.{fateOf, keepBy, staying, mergeBy, mergedWith, isStaying, oneIf}
 use Rattle.insert_merge.proofs.Merged.{fate-shown}
+
+-- an item that stays is one more
+pub length-keep : (f : Fate) (it : ItemWords) (its : List ItemWords) → length (keepBy f it its) ≡ oneIf (isStaying f) + length its
+length-keep Replaced it its = omega arith
+length-keep Stays it its = omega arith
+length-keep Merges it its = omega arith
+
+pub one-at-most : (t : Bool) {n : ℕ} → n ≡ oneIf t → n ≤ 1
+one-at-most true e = omega arith
+one-at-most false e = omega arith
 
 module _ (pool : List ℕ) where
   -- an item is taken out: replaced or merged
@@ -21,10 +33,10 @@ module _ (pool : List ℕ) where
   Gone new it = fateOf pool new it ≡ Stays → ⊥
 
   pub replaced-gone : (new it : ItemWords) → fateOf pool new it ≡ Replaced → Gone new it
-  replaced-gone new it e s = let z : _≡_ {A = ℕ} 0 1 = cc in omega arith
+  replaced-gone new it e s = impossible cc
 
   pub merges-gone : (new it : ItemWords) → fateOf pool new it ≡ Merges → Gone new it
-  merges-gone new it e s = let z : _≡_ {A = ℕ} 0 1 = cc in omega arith
+  merges-gone new it e s = impossible cc
 
   pub stays-or-gone : (new it : ItemWords) → (fateOf pool new it ≡ Stays) ⊎ Gone new it
   stays-or-gone new it = go (fateOf pool new it) refl
@@ -35,6 +47,14 @@ module _ (pool : List ℕ) where
       go Merges e = inr (merges-gone new it e)
 
   -- ---- what stays
+
+  -- no more than there are
+  pub length-staying : (new : ItemWords) (its : List ItemWords) → length (staying pool new its) ≤ length its
+  unfolding staying
+  length-staying new [] = omega arith
+  length-staying new (it ∷ its) =
+      let f = fateOf pool new it in
+      omega (arith, length-keep f it (staying pool new its), one-at-most (isStaying f) refl, length-staying new its)
 
   -- it is of the list, and stays
   pub among-staying : (new : ItemWords) (its : List ItemWords) (x : ItemWords) → Among x (staying pool new its) → Among x its × (fateOf pool new x ≡ Stays)
@@ -59,11 +79,11 @@ module _ (pool : List ℕ) where
       other f g p = sym e ∙ ap (fateOf pool new) p ∙ g
 
       go : (f : Fate) → fateOf pool new y ≡ f → (x ≡ y) ⊎ Among x ys → (Among x ys → Among x (staying pool new ys)) → Among x (keepBy f y (staying pool new ys))
-      go Replaced g (inl p) r = absurd (let s = other Replaced g p in let z : _≡_ {A = ℕ} 0 1 = cc in omega arith)
+      go Replaced g (inl p) r = absurd (let s = other Replaced g p in impossible cc)
       go Replaced g (inr n) r = r n
       go Stays g (inl p) r = inl p
       go Stays g (inr n) r = inr (r n)
-      go Merges g (inl p) r = absurd (let s = other Merges g p in let z : _≡_ {A = ℕ} 0 1 = cc in omega arith)
+      go Merges g (inl p) r = absurd (let s = other Merges g p in impossible cc)
       go Merges g (inr n) r = r n
 
   pub staying-all : (new : ItemWords) (its : List ItemWords) → ((x : ItemWords) → Among x its → fateOf pool new x ≡ Stays) → staying pool new its ≡ its
@@ -126,14 +146,14 @@ module _ (pool : List ℕ) where
 -- ---- of lists that show the same, of one pool or of two
 
 module _ (P Q : List ℕ) where
-  keep-shown : (f : Fate) (a b : ItemWords) (A B : List ItemWords) → shown P a ≡ shown Q b → map (shown P) A ≡ map (shown Q) B
-      → map (shown P) (keepBy f a A) ≡ map (shown Q) (keepBy f b B)
+  keep-shown : (f : Fate) (a b : ItemWords) (A B : List ItemWords) → shown P a ≡ shown Q b → SameShown P Q A B
+      → SameShown P Q (keepBy f a A) (keepBy f b B)
   keep-shown Replaced a b A B h r = r
   keep-shown Stays a b A B h r = ap₂ _∷_ h r
   keep-shown Merges a b A B h r = r
 
-  pub staying-shown : (x y : ItemWords) (A B : List ItemWords) → shown P x ≡ shown Q y → map (shown P) A ≡ map (shown Q) B
-      → map (shown P) (staying P x A) ≡ map (shown Q) (staying Q y B)
+  pub staying-shown : (x y : ItemWords) (A B : List ItemWords) → shown P x ≡ shown Q y → SameShown P Q A B
+      → SameShown P Q (staying P x A) (staying Q y B)
   unfolding staying
   staying-shown x y [] [] s e = refl
   staying-shown x y [] (b ∷ B) s e = absurd (omega (arith, ap length e))

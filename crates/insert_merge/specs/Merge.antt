@@ -1,7 +1,9 @@
 -- Insertion into a list of items: what becomes of each of its items, and what merges. Definitions only. Assumes nothing.
 use Prim.Native.Nat.{ℕ}
+use mathlib.Core.Path.{_≡_}
 use mathlib.Core.List.{List, [], _∷_}
 use mathlib.Core.Bool.{Bool, true, false, cond, not, _||_, _&&_}
+use lib.ListN.{length}
 use Rattle.key_order.specs.Order.{smaller}
 use Rattle.query_item.specs.declared.ItemWords.{ItemWords}
 use Rattle.query_item.specs.declared.RangeSetItem.{RangeSetItem}
@@ -12,6 +14,7 @@ use Rattle.query_item.specs.Items.{wordsOf}
 use Rattle.query_item.specs.Boundaries.{compareIn, fromTo, rangeOf, toQueryItem}
 use Rattle.insert_order.specs.Order.{plain, sameItem, endsBelow}
 use Rattle.insert_merge.specs.declared.Fate.{Fate}
+use Rattle.insert_merge.specs.declared.Found.{Found}
 use Rattle.insert_merge.specs.declared.Fate.the-variants.{Replaced, Stays, Merges}
 
 -- ---- what becomes of the list's items
@@ -76,3 +79,8 @@ mergeBy pool Merges cur it = merged pool cur it
 unfoldable pub mergedWith : List ℕ → ItemWords → ItemWords → List ItemWords → ItemWords
 mergedWith pool new cur [] = cur
 mergedWith pool new cur (it ∷ its) = mergedWith pool new (mergeBy pool (fateOf pool new it) cur it) its
+
+-- 01 m5.2, m5.4: what a list comes to: the new item with all that merge with it, and how many items stay
+pub record Finds (pool : List ℕ) (new : ItemWords) (its : List ItemWords) (found : Found) : Type 0 where
+  pub result : found .result ≡ mergedWith pool new new its
+  pub stay : found .stay ≡ length (staying pool new its)

@@ -7,10 +7,9 @@
 ghost use mathlib.Core.Path.{_≡_};
 ghost use mathlib.Core.Bool.{_&&_};
 ghost use Prim.Native.Nat.{_-_};
-ghost use lib.ListN.{length};
 ghost use Rattle.query_item.specs.Items.{itemsFrom};
 ghost use Rattle.insert_order.specs.Order.{plain};
-ghost use Rattle.insert_merge.specs.Merge.{disjoint, fateOf, staying, smallerStart, largerEnd, hull, plainItem, merged, mergeBy, mergedWith, isStaying, oneIf};
+ghost use Rattle.insert_merge.specs.Merge.{disjoint, fateOf, smallerStart, largerEnd, hull, plainItem, merged, mergeBy, isStaying, oneIf, Finds};
 use insert_order::ends_below;
 use insert_order::is_plain;
 use insert_order::is_same;
@@ -39,7 +38,7 @@ pub struct Found {
 
 // inner: the new item with all that merge with it of the items from an index up to another, and how many of these stay.
 pub fn find_merged(pool: &[u8], words: &[u32], from: usize, to: usize, item: ItemWords) -> Found
-    ensures { λ r. ⌜ (r .result ≡ mergedWith (now (pool .entry)) item item (itemsFrom (now (words .entry)) from (to - from))) × (r .stay ≡ length (staying (now (pool .entry)) item (itemsFrom (now (words .entry)) from (to - from)))) ⌝ }
+    ensures { λ r. ⌜ Finds (now (pool .entry)) item (itemsFrom (now (words .entry)) from (to - from)) r ⌝ }
 {
     let mut result = item;
     let mut stay: usize = 0;

@@ -7,7 +7,7 @@ use Rattle.key_order.specs.Boundary.{compareBoundaries}
 use Rattle.query_item.specs.declared.ItemWords.{ItemWords}
 use Rattle.query_item.specs.Items.{keyAt, itemWords}
 use Rattle.item_check.specs.Checks.{refused}
-use Rattle.insert_order.specs.Order.{orderItems, sameItem, endsBelow, clashes}
+use Rattle.insert_order.specs.Order.{compareItems, sameItem, endsBelow, clashes}
 use Rattle.insert_order.specs.Refusals.{firstClash, orderVerdict}
 
 abbrev pool : List ℕ
@@ -19,5 +19,5 @@ closed w a b = itemWords 2 w (keyAt a 1) (keyAt b 1)
 
 -- A6: [04,09] clashes with [01,05], past the wrapped [02,03] between them
 past-wrapped : orderVerdict pool (closed 0 0 4 ∷ closed 1 1 2 ∷ closed 0 3 8 ∷ []) ≡ refused 4 0 2
-unfolding firstClash clashes orderItems sameItem endsBelow compareBoundaries compareKeys compareNumbers
+unfolding firstClash clashes compareItems sameItem endsBelow compareBoundaries compareKeys compareNumbers
 past-wrapped = refl

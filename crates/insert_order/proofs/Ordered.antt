@@ -2,22 +2,25 @@
 -- items lie apart. Assumes nothing.
 use Prim.Native.Nat.{ℕ, zero, suc, _+_, _≤_, _<_}
 use mathlib.Core.Path.{_≡_, refl, sym, ap, _∙_}
-use mathlib.Core.Bool.{Bool, true, false, cond, not, _||_, _&&_}
+use mathlib.Core.Bool.{Bool, true, false, cond, not, _&&_}
 use mathlib.Core.Logic.{_⊎_, inl, inr}
 use mathlib.Core.List.{List, [], _∷_, _++_}
 use native.Mathlib.Omega.{arith}
 use native.Mathlib.Nat.{le-refl}
 use native.Mathlib.Decide.{decLt}
 use borrow.Author.Tests.{ltb-true, ltb-false}
+use Rattle.key_order.proofs.Impossible.{impossible}
 use Rattle.key_order.specs.Order.{isLess}
+use Rattle.key_order.proofs.Bools.{both-false}
 use Rattle.key_order.proofs.Line.{size}
 use Rattle.query_item.specs.declared.ItemWords.{ItemWords}
 use Rattle.query_item.specs.Items.{itemAt, itemsFrom}
+use Rattle.intervals.proofs.Laws.{All}
 use Rattle.item_check.specs.Checks.{refused, accepted}
-use Rattle.insert_order.specs.Order.{orderItems, plain, sameItem, endsBelow, clash, clashes}
+use Rattle.insert_order.specs.Order.{compareItems, plain, sameItem, endsBelow, clash, clashes}
 use Rattle.insert_order.specs.Refusals.{firstClash}
 use Rattle.insert_order.proofs.Ranked.{lo, hi, itemRank, order-less, ends-less}
-use Rattle.insert_order.proofs.Seen.{or-false}
+use Rattle.insert_order.proofs.Seen.{none-of-three}
 
 -- one of a list
 abbrev pub Among : ItemWords → List ItemWords → Type 0
@@ -35,6 +38,17 @@ pub parts-among : (before : List ItemWords) (x : ItemWords) (after : List ItemWo
 parts-among [] x after = inl refl
 parts-among (y ∷ before) x after = inr (parts-among before x after)
 
+-- what holds of all of a list holds of each of them, and the other way round
+
+pub all-among : (P : ItemWords → Type 0) (its : List ItemWords) → All P its → (x : ItemWords) → Among x its → P x
+all-among P [] a x m = absurd m
+all-among P (y ∷ ys) a x (inl e) = rw e (a .0)
+all-among P (y ∷ ys) a x (inr m) = all-among P ys (a .1) x m
+
+pub among-all : (P : ItemWords → Type 0) (its : List ItemWords) → ((x : ItemWords) → Among x its → P x) → All P its
+among-all P [] f = tt
+among-all P (y ∷ ys) f = (f y (inl refl), among-all P ys (λ x m. f x (inr m)))
+
 -- each item of a list stands so to every later one
 abbrev pub Pairwise : (ItemWords → ItemWords → Type 0) → List ItemWords → Type 0
 Pairwise R [] = Unit {0}
@@ -48,13 +62,8 @@ module _ (pool : List ℕ) where
   clashes-none : (es : List ItemWords) (it : ItemWords) → clashes pool es it ≡ false → (e : ItemWords) → Among e es → clash pool e it ≡ false
   unfolding clashes
   clashes-none [] it h e m = absurd m
-  clashes-none (d ∷ ds) it h e m = go (clash pool d it) refl h (λ q n. clashes-none ds it q e n) m
-    where
-      go : (t : Bool) → clash pool d it ≡ t → t || clashes pool ds it ≡ false → (clashes pool ds it ≡ false → Among e ds → clash pool e it ≡ false)
-          → (e ≡ d) ⊎ Among e ds → clash pool e it ≡ false
-      go true p q r n = absurd (let z : _≡_ {A = ℕ} 0 1 = cc in omega arith)
-      go false p q r (inl s) = rw s p
-      go false p q r (inr n) = r q n
+  clashes-none (d ∷ ds) it h e (inl s) = rw s (both-false (clash pool d it) (clashes pool ds it) .0 h .0)
+  clashes-none (d ∷ ds) it h e (inr n) = clashes-none ds it (both-false (clash pool d it) (clashes pool ds it) .0 h .1) e n
 
   clashes-no : (es : List ItemWords) (it : ItemWords) → ((e : ItemWords) → Among e es → clash pool e it ≡ false) → clashes pool es it ≡ false
   unfolding clashes
@@ -72,7 +81,7 @@ module _ (pool : List ℕ) where
     where
       go : (t : Bool) → clashes pool es x ≡ t → cond t (refused 4 0 i) (firstClash pool (suc i) (x ∷ es) xs) ≡ accepted
           → (firstClash pool (suc i) (x ∷ es) xs ≡ accepted → Follows (x ∷ es) xs) → Follows es (x ∷ xs)
-      go true p q r = absurd (let z : _≡_ {A = ℕ} 0 1 = cc in omega arith)
+      go true p q r = impossible cc
       go false p q r =
           let f = r q in (
             λ e it m n. later e it m n f,
@@ -110,16 +119,16 @@ module _ (pool : List ℕ) where
   -- what an item and a later one that it does not clash with have
   pub clash-says : (x y : ItemWords) → clash pool x y ≡ false → (K x ≤ K y) × (plain x ≡ true → plain y ≡ true → E x < S y)
   clash-says x y e =
-      let p = or-false (isLess (orderItems pool y x)) (plain x && plain y && not (endsBelow pool x y)) (sameItem pool x y) e in (
+      let p = none-of-three (isLess (compareItems pool y x)) (plain x && plain y && not (endsBelow pool x y)) (sameItem pool x y) e in (
         ltb-false (K y) (K x) (sym (order-less (size pool) pool fits y x) ∙ p .0),
         λ s t. ltb-true (E x) (S y) (sym (ends-less (size pool) pool fits x y) ∙ go (plain x) (plain y) (endsBelow pool x y) s t (p .1)),
       )
     where
       go : (a b c : Bool) → a ≡ true → b ≡ true → a && b && not c ≡ false → c ≡ true
       go true true true p q r = refl
-      go true true false p q r = absurd (let z : _≡_ {A = ℕ} 0 1 = cc in omega arith)
-      go true false c p q r = absurd (let z : _≡_ {A = ℕ} 0 1 = cc in omega arith)
-      go false b c p q r = absurd (let z : _≡_ {A = ℕ} 0 1 = cc in omega arith)
+      go true true false p q r = impossible cc
+      go true false c p q r = impossible cc
+      go false b c p q r = impossible cc
 
   -- none ranks above a later one
   abbrev pub Sorted : List ItemWords → Type 0

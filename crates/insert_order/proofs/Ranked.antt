@@ -12,25 +12,26 @@ use borrow.Author.Tests.{eqb-true, eq-eqb}
 use Rattle.key_order.specs.declared.Ordering.{Ordering}
 use Rattle.key_order.specs.declared.Ordering.the-variants.{Less, Equal, Greater}
 use Rattle.key_order.specs.Order.{thenBy, isLess}
+use Rattle.key_order.proofs.Bools.{both-true}
 use Rattle.key_order.proofs.Numbers.{Says, says-less}
 use Rattle.key_order.proofs.Laws.{compare-same}
 use Rattle.key_order.proofs.Line.{size, past}
-use Rattle.key_order.proofs.Ranks.{extent, rank, rank-bound, rank-says}
+use Rattle.key_order.proofs.Ranks.{rank}
 use Rattle.query_item.specs.declared.ItemWords.{ItemWords}
 use Rattle.query_item.specs.declared.RangeSetItem.{RangeSetItem}
 use Rattle.query_item.specs.Items.{bytesOf, Shown, shown}
 use Rattle.query_item.specs.Boundaries.{boundaryOf, compareIn, rangeOf}
-use Rattle.query_item.proofs.Laws.{shown-range, boundary-fits}
-use Rattle.insert_order.specs.Order.{orderItems, sameItem, endsBelow}
+use Rattle.query_item.proofs.Laws.{shown-range, rank-says-in, rank-top}
+use Rattle.insert_order.specs.Order.{compareItems, sameItem, endsBelow}
 
 -- ---- equal items show the same, and those that show the same are equal
 
 and-four : (a b c d : Bool) → a && b && c && d ≡ true → (a ≡ true) × (b ≡ true) × (c ≡ true) × (d ≡ true)
-and-four true true true true e = (refl, refl, refl, refl)
-and-four true true true false e = absurd (let z : _≡_ {A = ℕ} 0 1 = cc in omega arith)
-and-four true true false d e = absurd (let z : _≡_ {A = ℕ} 0 1 = cc in omega arith)
-and-four true false c d e = absurd (let z : _≡_ {A = ℕ} 0 1 = cc in omega arith)
-and-four false b c d e = absurd (let z : _≡_ {A = ℕ} 0 1 = cc in omega arith)
+and-four a b c d e =
+    let three = both-true (a && b && c) d e in
+    let two = both-true (a && b) c (three .0) in
+    let one = both-true a b (two .0) in
+    (one .0, one .1, two .1, three .1)
 
 pub same-shown : (pool : List ℕ) (x y : ItemWords) → sameItem pool x y ≡ true → shown pool x ≡ shown pool y
 unfolding sameItem
@@ -73,8 +74,8 @@ same-range pool x y e = shown-range pool pool x y (same-shown pool x y e)
 -- ---- the order goes by what items show, of one pool or of two
 
 module _ (P Q : List ℕ) (x y a b : ItemWords) (e : shown P x ≡ shown Q y) (f : shown P a ≡ shown Q b) where
-  pub order-shown : orderItems P x a ≡ orderItems Q y b
-  unfolding orderItems
+  pub order-shown : compareItems P x a ≡ compareItems Q y b
+  unfolding compareItems
   order-shown = let r = shown-range P Q x y e in let s = shown-range P Q a b f in rw (r .0, r .1, s .0, s .1)
 
   pub ends-shown : endsBelow P x a ≡ endsBelow Q y b
@@ -114,19 +115,16 @@ module _ (n : ℕ) (pool : List ℕ) where
   itemRank it = lo it * top + hi it
 
   module _ (h : size pool ≤ n) where
-    fits : (x : RangeSetItem) → extent (boundaryOf pool x) ≤ n
-    fits x = omega (arith, boundary-fits pool x)
-
     rk-bound : (x : RangeSetItem) → rk x < top
     unfolding rk
-    rk-bound x = omega (arith, rank-bound n (boundaryOf pool x) (fits x))
+    rk-bound x = omega (arith, rank-top pool n h x)
 
     pub rk-says : (x y : RangeSetItem) → Says (compareIn pool x y) (rk x) (rk y)
     unfolding rk
-    rk-says x y = rank-says n (boundaryOf pool x) (boundaryOf pool y) (fits x) (fits y)
+    rk-says x y = rank-says-in pool n h x y
 
-    pub order-says : (x y : ItemWords) → Says (orderItems pool x y) (itemRank x) (itemRank y)
-    unfolding orderItems itemRank
+    pub order-says : (x y : ItemWords) → Says (compareItems pool x y) (itemRank x) (itemRank y)
+    unfolding compareItems itemRank
     order-says x y =
         go (compareIn pool (rangeOf x .start) (rangeOf y .start)) (rk-says (rangeOf x .start) (rangeOf y .start))
         (compareIn pool (rangeOf x .end) (rangeOf y .end)) (rk-says (rangeOf x .end) (rangeOf y .end))
@@ -138,8 +136,8 @@ module _ (n : ℕ) (pool : List ℕ) where
         go Equal l Greater s = rw l (omega arith)
         go Greater l r s = omega (arith, mul-le-mul-right top l, rk-bound (rangeOf y .end))
 
-    pub order-less : (x y : ItemWords) → isLess (orderItems pool x y) ≡ ltb (itemRank x) (itemRank y)
-    order-less x y = says-less (orderItems pool x y) (itemRank x) (itemRank y) (order-says x y)
+    pub order-less : (x y : ItemWords) → isLess (compareItems pool x y) ≡ ltb (itemRank x) (itemRank y)
+    order-less x y = says-less (compareItems pool x y) (itemRank x) (itemRank y) (order-says x y)
 
     pub ends-less : (x y : ItemWords) → endsBelow pool x y ≡ ltb (hi x) (lo y)
     unfolding endsBelow

@@ -10,7 +10,7 @@ use borrow.Author.Tests.{not-true, not-false}
 use Rattle.query_item.specs.declared.ItemWords.{ItemWords}
 use Rattle.query_item.specs.Items.{bytesOf, same, itemAt, itemsFrom}
 use Rattle.item_check.proofs.Scans.{items-end, items-more}
-use Rattle.insert_order.specs.Order.{orderItems, plain, sameItem, endsBelow}
+use Rattle.insert_order.specs.Order.{compareItems, plain, sameItem, endsBelow}
 use Rattle.insert_order.specs.Passes.{lastOrder, meetsPlain, repeats}
 
 -- ---- an item that is repeated
@@ -35,7 +35,7 @@ module _ (pool ws : List ℕ) (i count : ℕ) where
 -- ---- the item before an index
 
 module _ (pool ws : List ℕ) where
-  pub last-before : (i : ℕ) (it : ItemWords) → (i ≡ 0 → ⊥) → lastOrder pool ws i it ≡ orderItems pool (itemAt ws (i - 1)) it
+  pub last-before : (i : ℕ) (it : ItemWords) → (i ≡ 0 → ⊥) → lastOrder pool ws i it ≡ compareItems pool (itemAt ws (i - 1)) it
   unfolding lastOrder
   last-before zero it h = absurd (h refl)
   last-before (suc i) it h = let e : suc i - 1 ≡ i = omega arith in rw e

@@ -3,7 +3,7 @@
 -- the other plain ones. Assumes nothing.
 use Prim.Native.Nat.{ℕ, zero, suc, _+_, _-_, _≤_, _<_}
 use mathlib.Core.Path.{_≡_, refl, sym, _∙_}
-use mathlib.Core.Bool.{Bool, true, false, cond, not, _||_, _&&_}
+use mathlib.Core.Bool.{Bool, true, false, cond, not, _||_, _&&_, or-true}
 use mathlib.Core.List.{List, [], _∷_}
 use native.Mathlib.Omega.{arith}
 use native.Mathlib.Nat.{le-refl, sub-zero}
@@ -11,34 +11,37 @@ use native.Mathlib.Numerals.{add-one}
 use native.Mathlib.Decide.{decLt}
 use lib.Dec.{eqb}
 use borrow.Author.Tests.{ltb-true, lt-ltb, le-ltb, not-false, eqb-true}
+use Rattle.key_order.proofs.Impossible.{impossible}
 use Rattle.key_order.specs.declared.Ordering.{Ordering}
 use Rattle.key_order.specs.declared.Ordering.the-variants.{Less, Equal, Greater}
-use Rattle.key_order.specs.Order.{isLess}
+use Rattle.key_order.specs.Order.{isLess, isGreater}
+use Rattle.key_order.proofs.Bools.{both-false}
 use Rattle.key_order.proofs.Numbers.{Says}
 use Rattle.key_order.proofs.Line.{size}
 use Rattle.query_item.specs.declared.ItemWords.{ItemWords}
 use Rattle.query_item.specs.Items.{itemAt, itemsFrom}
 use Rattle.item_check.specs.Checks.{Verdict, accepted, refused}
 use Rattle.item_check.proofs.Scans.{items-end, items-more}
-use Rattle.insert_order.specs.Order.{orderItems, plain, sameItem, endsBelow, clash, clashes}
+use Rattle.insert_order.specs.Order.{compareItems, plain, sameItem, endsBelow, clash, clashes}
 use Rattle.insert_order.specs.Refusals.{firstClash, orderVerdict}
-use Rattle.insert_order.specs.Passes.{followsPlain, isGreater, lastOrder, runStart, meetsPlain, lastPlain, repeats, quickClash}
+use Rattle.insert_order.specs.Passes.{followsPlain, lastOrder, runStart, meetsPlain, lastPlain, repeats, quickClash}
 use Rattle.insert_order.proofs.Ranked.{lo, hi, itemRank, order-says, order-less, ends-less, rank-above, rank-start, same-item-rank}
 
 -- ---- three tests joined by or
 
-pub or-true : (a b c : Bool) {G : Type 0} → a || b || c ≡ true → (a ≡ true → G) → (b ≡ true → G) → (c ≡ true → G) → G
-or-true true b c e f g h = f refl
-or-true false true c e f g h = g refl
-or-true false false c e f g h = h e
+some-of-three : (a b c : Bool) {G : Type 0} → a || b || c ≡ true → (a ≡ true → G) → (b ≡ true → G) → (c ≡ true → G) → G
+some-of-three true b c e f g h = f refl
+some-of-three false true c e f g h = g refl
+some-of-three false false c e f g h = h e
 
-pub or-false : (a b c : Bool) → a || b || c ≡ false → (a ≡ false) × (b ≡ false) × (c ≡ false)
-or-false true b c e = absurd (let z : _≡_ {A = ℕ} 0 1 = cc in omega arith)
-or-false false true c e = absurd (let z : _≡_ {A = ℕ} 0 1 = cc in omega arith)
-or-false false false c e = (refl, refl, e)
+pub none-of-three : (a b c : Bool) → a || b || c ≡ false → (a ≡ false) × (b ≡ false) × (c ≡ false)
+none-of-three a b c e =
+    let last = both-false (a || b) c .0 e in
+    let first = both-false a b .0 (last .0) in
+    (first .0, first .1, last .1)
 
 true-false : {G : Type 0} (a : Bool) → a ≡ true → a ≡ false → G
-true-false a p q = absurd (let z : _≡_ {A = ℕ} 0 1 = cc in omega arith)
+true-false a p q = impossible cc
 
 -- ---- the rules between an earlier item and a later one, in ranks
 
@@ -52,7 +55,8 @@ module _ (pool : List ℕ) where
   abbrev E : ItemWords → ℕ
   E it = hi (size pool) pool it
 
-  pub clash-none : (e it : ItemWords) → K e ≤ K it → (plain e ≡ true → plain it ≡ true → E e < S it) → sameItem pool e it ≡ false → clash pool e it ≡ false
+  pub clash-none : (e it : ItemWords) → K e ≤ K it → (plain e ≡ true → plain it ≡ true → E e < S it) → sameItem pool e it ≡ false
+      → clash pool e it ≡ false
   clash-none e it h k l = rw (order-less (size pool) pool (le-refl (size pool)) it e, le-ltb (K it) (K e) h, l) (go (plain e) (plain it) refl refl)
     where
       go : (s t : Bool) → plain e ≡ s → plain it ≡ t → false || (s && t && not (endsBelow pool e it)) || false ≡ false
@@ -64,22 +68,10 @@ module _ (pool : List ℕ) where
   clash-order e it h = rw (order-less (size pool) pool (le-refl (size pool)) it e, lt-ltb (K it) (K e) h)
 
   pub clash-same : (e it : ItemWords) → sameItem pool e it ≡ true → clash pool e it ≡ true
-  clash-same e it h = rw h (go (isLess (orderItems pool it e)) (plain e && plain it && not (endsBelow pool e it)))
-    where
-      go : (a b : Bool) → a || b || true ≡ true
-      go true b = refl
-      go false true = refl
-      go false false = refl
+  clash-same e it h = rw h (or-true (isLess (compareItems pool it e) || (plain e && plain it && not (endsBelow pool e it))))
 
   pub clash-plain : (e it : ItemWords) → plain e ≡ true → plain it && not (endsBelow pool e it) ≡ true → clash pool e it ≡ true
-  clash-plain e it h k =
-      rw h (go (isLess (orderItems pool it e)) (plain it) (not (endsBelow pool e it)) (sameItem pool e it) k)
-    where
-      go : (a b c d : Bool) → b && c ≡ true → a || (true && b && c) || d ≡ true
-      go true b c d e′ = refl
-      go false true true d e′ = refl
-      go false true false d e′ = true-false false e′ refl
-      go false false c d e′ = true-false false e′ refl
+  clash-plain e it h k = rw (h, k, or-true (isLess (compareItems pool it e)))
 
 module _ (pool ws : List ℕ) where
   -- the items before an index, the last first
@@ -95,13 +87,9 @@ module _ (pool ws : List ℕ) where
     unfolding earlier clashes
     clash-some zero j h e = absurd (omega arith)
     clash-some (suc i) j h e = elim (decLt j i) [
-      | yes l ↦ rw (clash-some i j l e) (go (clash pool (at i) it))
+      | yes l ↦ rw (clash-some i j l e) (or-true (clash pool (at i) it))
       | no l ↦ let s : j ≡ i = omega arith in rw (← s, e)
     ]
-      where
-        go : (t : Bool) → t || true ≡ true
-        go true = refl
-        go false = refl
 
     pub clash-no : (i : ℕ) → ((j : ℕ) → j < i → clash pool (at j) it ≡ false) → clashes pool (earlier i) it ≡ false
     unfolding earlier clashes
@@ -121,14 +109,11 @@ module _ (pool ws : List ℕ) where
     repeats-none : (a k : ℕ) → repeats pool (itemsFrom ws a k) it ≡ false → (j : ℕ) → a ≤ j → j < a + k → sameItem pool (at j) it ≡ false
     unfolding repeats itemsFrom
     repeats-none a zero e j h l = absurd (omega arith)
-    repeats-none a (suc k) e j h l = go (sameItem pool (at a) it) refl e (λ q m. repeats-none (suc a) k q j m (omega arith))
-      where
-        go : (t : Bool) → sameItem pool (at a) it ≡ t → t || repeats pool (itemsFrom ws (suc a) k) it ≡ false
-            → (repeats pool (itemsFrom ws (suc a) k) it ≡ false → suc a ≤ j → sameItem pool (at j) it ≡ false) → sameItem pool (at j) it ≡ false
-        go true p q r = true-false true refl q
-        go false p q r = elim (decLt a j) [
-          | yes s ↦ r q (omega arith)
-          | no s ↦ let f : j ≡ a = omega arith in rw f p
+    repeats-none a (suc k) e j h l =
+        let both = both-false (sameItem pool (at a) it) (repeats pool (itemsFrom ws (suc a) k) it) .0 e in
+        elim (decLt a j) [
+          | yes s ↦ repeats-none (suc a) k (both .1) j (omega arith) (omega arith)
+          | no s ↦ let f : j ≡ a = omega arith in rw f (both .0)
         ]
 
   -- what is known of the first i items: run is where the run of the last one's range starts, p is past the last plain one
@@ -176,7 +161,7 @@ module _ (pool ws : List ℕ) where
     pub quick-some : quickClash pool ws o run′ p i it ≡ true → clashes pool (earlier i) it ≡ true
     unfolding meetsPlain
     quick-some t =
-        or-true (isGreater o) (meetsPlain pool ws p it) (repeats pool (itemsFrom ws run′ (i - run′)) it) t falls (meets p refl)
+        some-of-three (isGreater o) (meetsPlain pool ws p it) (repeats pool (itemsFrom ws run′ (i - run′)) it) t falls (meets p refl)
         (repeats-some it i run′ (i - run′) (omega (arith, run-bound)))
       where
         falls : isGreater o ≡ true → clashes pool (earlier i) it ≡ true
@@ -205,7 +190,7 @@ module _ (pool ws : List ℕ) where
     pub quick-none : quickClash pool ws o run′ p i it ≡ false → Clear
     unfolding meetsPlain
     quick-none t =
-        let q = or-false (isGreater o) (meetsPlain pool ws p it) (repeats pool (itemsFrom ws run′ (i - run′)) it) t in
+        let q = none-of-three (isGreater o) (meetsPlain pool ws p it) (repeats pool (itemsFrom ws run′ (i - run′)) it) t in
         record {
           above = above q;
           above-run = above-run q;
@@ -248,7 +233,8 @@ module _ (pool ws : List ℕ) where
                 let f′ : p - 1 ≡ x = omega arith in
                 let low : x < i = omega (arith, v .plain-in) in
                 let m = rw u at g in
-                let last : E pool (at x) < S pool it = ltb-true (E pool (at x)) (S pool it) (sym (ends-less (size pool) pool (le-refl (size pool)) (at x) it) ∙ not-false (endsBelow pool (at x) it) m) in
+                let ends = sym (ends-less (size pool) pool (le-refl (size pool)) (at x) it) in
+                let last : E pool (at x) < S pool it = ltb-true (E pool (at x)) (S pool it) (ends ∙ not-false (endsBelow pool (at x) it) m) in
                 elim (decLt (j + 1) p) [
                   | yes l ↦
                       let far : E pool (at j) < S pool (at x) = rw f′ at (v .plain-apart j l s) in
@@ -342,7 +328,7 @@ module _ (pool ws : List ℕ) where
           let n : suc i - suc i ≡ 0 = omega arith in
           record {
             order =
-                order (ltb-true (E pool (at i)) (S pool it) (sym (ends-less (size pool) pool (le-refl (size pool)) (at i) it) ∙ k)) (orderItems pool (at i) it)
+                order (ltb-true (E pool (at i)) (S pool it) (sym (ends-less (size pool) pool (le-refl (size pool)) (at i) it) ∙ k)) (compareItems pool (at i) it)
                 (order-says (size pool) pool (le-refl (size pool)) (at i) it);
             quick = rw (q, n, h, k);
             is-plain = h;

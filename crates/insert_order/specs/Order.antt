@@ -10,8 +10,8 @@ use Rattle.query_item.specs.Items.{bytesOf, same}
 use Rattle.query_item.specs.Boundaries.{compareIn, rangeOf}
 
 -- 01 m5.1: items are ordered by start, then end
-unfoldable pub orderItems : List ℕ → ItemWords → ItemWords → Ordering
-orderItems pool x y = thenBy (compareIn pool (rangeOf x .start) (rangeOf y .start)) (compareIn pool (rangeOf x .end) (rangeOf y .end))
+unfoldable pub compareItems : List ℕ → ItemWords → ItemWords → Ordering
+compareItems pool x y = thenBy (compareIn pool (rangeOf x .start) (rangeOf y .start)) (compareIn pool (rangeOf x .end) (rangeOf y .end))
 
 -- 01 keys.6: 0 plain
 abbrev pub plain : ItemWords → Bool
@@ -33,7 +33,7 @@ endsBelow pool x y = isLess (compareIn pool (rangeOf x .end) (rangeOf y .start))
 -- its start where it is plain too, and with an earlier one that is equal
 abbrev pub clash : List ℕ → ItemWords → ItemWords → Bool
 clash pool earlier it =
-    isLess (orderItems pool it earlier)
+    isLess (compareItems pool it earlier)
     || (plain earlier && plain it && not (endsBelow pool earlier it))
     || sameItem pool earlier it
 

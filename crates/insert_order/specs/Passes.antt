@@ -2,27 +2,23 @@
 -- Refusals.antt define. It serves 01 m5.1. Assumes nothing.
 use Prim.Native.Nat.{ℕ, zero, suc, _-_}
 use mathlib.Core.List.{List, [], _∷_}
-use mathlib.Core.Bool.{Bool, true, false, cond, not, _||_, _&&_}
+use mathlib.Core.Bool.{Bool, false, cond, not, _||_, _&&_}
 use lib.Dec.{ltb, eqb}
 use Rattle.key_order.specs.declared.Ordering.{Ordering}
 use Rattle.key_order.specs.declared.Ordering.the-variants.{Less, Equal, Greater}
+use Rattle.key_order.specs.Order.{isGreater}
 use Rattle.query_item.specs.declared.ItemWords.{ItemWords}
 use Rattle.query_item.specs.Items.{itemAt, itemsFrom}
-use Rattle.insert_order.specs.Order.{orderItems, plain, sameItem, endsBelow}
+use Rattle.insert_order.specs.Order.{compareItems, plain, sameItem, endsBelow}
 
 -- the last of the first i items is plain, and a plain item starts above its end; p as below
 abbrev pub followsPlain : List ℕ → List ℕ → ℕ → ℕ → ItemWords → Bool
 followsPlain pool ws p i it = cond (ltb i 1 || not (eqb p i) || not (plain it)) false (endsBelow pool (itemAt ws (i - 1)) it)
 
-abbrev pub isGreater : Ordering → Bool
-isGreater Less = false
-isGreater Equal = false
-isGreater Greater = true
-
 -- how the last of the first i items stands to an item; where there is none it counts as below
 unfoldable pub lastOrder : List ℕ → List ℕ → ℕ → ItemWords → Ordering
 lastOrder pool ws zero it = Less
-lastOrder pool ws (suc i) it = orderItems pool (itemAt ws i) it
+lastOrder pool ws (suc i) it = compareItems pool (itemAt ws i) it
 
 -- where the run of items of one range starts that the item at i ends
 abbrev pub runStart : Ordering → ℕ → ℕ → ℕ

@@ -10,10 +10,9 @@ ghost use Prim.Native.Nat.{_-_};
 ghost use Rattle.query_item.specs.Items.{itemsFrom};
 ghost use Rattle.query_item.specs.Boundaries.{rangeOf};
 ghost use Rattle.item_check.specs.Checks.{verdictOf, accepted, uprightFault, firstBad};
-ghost use Rattle.insert_order.specs.Order.{orderItems, plain, sameItem, endsBelow};
+ghost use Rattle.insert_order.specs.Order.{compareItems, plain, sameItem, endsBelow};
 ghost use Rattle.insert_order.specs.Refusals.{bufferVerdict, orderVerdict, orderedVerdict, inputVerdict};
-ghost use Rattle.insert_order.specs.Passes.{followsPlain, isGreater, lastOrder, runStart, meetsPlain, lastPlain, repeats, quickClash};
-use boundary::is_equal;
+ghost use Rattle.insert_order.specs.Passes.{followsPlain, lastOrder, runStart, meetsPlain, lastPlain, repeats, quickClash};
 use item_check::Checked;
 use item_check::MOST_ITEMS;
 use item_check::check_fault;
@@ -25,6 +24,8 @@ use item_words::ITEM_SIZE;
 use item_words::item_at;
 use item_words::query_item;
 use key_order::Ordering;
+use key_order::is_equal;
+use key_order::is_greater;
 use query_item::ItemWords;
 use query_item::RangeSet;
 use query_item::pooled::below_in;
@@ -112,7 +113,7 @@ fn last_order(pool: &[u8], words: &[u32], i: usize, item: ItemWords) -> Ordering
     if i == 0 {
         return Ordering::Less;
     }
-    order_items(pool, item_at(words, i - 1), item)
+    compare_items(pool, item_at(words, i - 1), item)
 }
 
 fn run_start(order: Ordering, i: usize, run: usize) -> usize
@@ -147,16 +148,6 @@ fn is_clash(
         | is_repeated(pool, words, run, i, item)
 }
 
-fn is_greater(order: Ordering) -> bool
-    ensures { λ r. ⌜ r ≡ isGreater order ⌝ }
-{
-    match order {
-        Ordering::Less => false,
-        Ordering::Equal => false,
-        Ordering::Greater => true,
-    }
-}
-
 fn meets_plain(pool: &[u8], words: &[u32], plain_end: usize, item: ItemWords) -> bool
     ensures { λ r. ⌜ r ≡ meetsPlain (now (pool .entry)) (now (words .entry)) «plain_end» item ⌝ }
 {
@@ -181,8 +172,8 @@ fn is_repeated(pool: &[u8], words: &[u32], run: usize, i: usize, item: ItemWords
 }
 
 // inner: how x stands to y: by start, then end.
-pub fn order_items(pool: &[u8], x: ItemWords, y: ItemWords) -> Ordering
-    ensures { λ r. ⌜ r ≡ orderItems (now (pool .entry)) x y ⌝ }
+pub fn compare_items(pool: &[u8], x: ItemWords, y: ItemWords) -> Ordering
+    ensures { λ r. ⌜ r ≡ compareItems (now (pool .entry)) x y ⌝ }
 {
     let a = range_of(x);
     let b = range_of(y);

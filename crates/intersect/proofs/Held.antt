@@ -8,7 +8,8 @@ use native.Mathlib.Decide.{decLt}
 use native.Mathlib.Omega.{arith}
 use Rattle.key_order.proofs.Line.{size}
 use Rattle.key_order.proofs.Ranks.{keyRank}
-use Rattle.intervals.specs.Intervals.{Interval, inside, piece, meet}
+use Rattle.intervals.specs.Intervals.{Interval, inside, piece}
+use Rattle.intervals.proofs.Model.{meet}
 use Rattle.intervals.specs.Intervals as interval
 use Rattle.intervals.proofs.Laws.{All, holds-piece, piece-some, piece-none}
 use Rattle.intervals.proofs.Members.{inside-meet, inside-cut, cut-once}

@@ -15,7 +15,8 @@ use Rattle.query_item.specs.declared.RangeSetItem.{RangeSetItem}
 use Rattle.query_item.specs.declared.RangeSet.{RangeSet}
 use Rattle.query_item.specs.Boundaries.{compareIn, invertOf}
 use Rattle.query_item.proofs.Laws.{Starts, Ends, rankIn, interval, rank-says-in, invert-start, invert-end, rank-top}
-use Rattle.intervals.specs.Intervals.{Interval, piece, meet}
+use Rattle.intervals.specs.Intervals.{Interval, piece}
+use Rattle.intervals.proofs.Model.{meet}
 use Rattle.intervals.proofs.Laws.{All, piece-some, piece-none}
 use Rattle.intersect.specs.Pair.{largerStart, smallerEnd, overlap, meetSets, leftOver, rightOver}
 use Rattle.intersect.proofs.Ranked as ranked

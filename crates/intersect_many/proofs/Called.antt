@@ -6,25 +6,26 @@ use mathlib.Core.Bool.{false}
 use mathlib.Core.List.{List}
 use lib.ListN.{length, take}
 use lib.Seq.{take-append-seam}
-use Rattle.query_item.specs.declared.QueryItem.{QueryItem}
-use Rattle.item_check.specs.Checks.{Answer, accepted, answered, poolVerdict, listVerdict}
-use Rattle.item_check.proofs.Laws.{accepts, accepted-list}
-use Rattle.item_lists.specs.Written.{plain, written}
+use Rattle.query_item.specs.declared.ItemWords.{ItemWords}
+use Rattle.query_item.specs.Items.{flatAll}
+use Rattle.item_check.specs.Checks.{Answer, accepted, answered, listVerdict}
+use Rattle.item_check.proofs.Laws.{accepted-list}
+use Rattle.item_lists.specs.Lists.{Accepted}
+use Rattle.item_lists.specs.Written.{written}
+use Rattle.item_lists.proofs.Accepted.{accepted-pool, list-of}
 use Rattle.intersect_many.specs.declared.ManyCounts.{ManyCounts}
-use Rattle.intersect_many.specs.Lists.{wordsAll, countsOf, lacksRoom, manyAnswer}
-use Rattle.intersect_many.specs.Demand.{Accepted}
+use Rattle.intersect_many.specs.Lists.{countsOf, lacksRoom, manyAnswer}
 
-module _ (pool A B : List ℕ) (a : Accepted pool A) (b : Accepted pool B) (both mine yours : List ℕ)
-    (room : lacksRoom (countsOf pool A B) both mine yours ≡ false) where
-  pub call-answers : manyAnswer pool A B both mine yours ≡ answered (countsOf pool A B)
+module _ (pool A B : List ℕ) (a : Accepted pool A) (b : Accepted pool B) (sharedOut oursOut theirsOut : List ℕ)
+    (room : lacksRoom (countsOf pool A B) sharedOut oursOut theirsOut ≡ false) where
+  pub call-answers : manyAnswer pool A B sharedOut oursOut theirsOut ≡ answered (countsOf pool A B)
   call-answers =
-      let ours = accepts (poolVerdict pool) (listVerdict pool A 0) .0 a in
-      let list = accepted-list pool 0 B .0 (accepts (poolVerdict pool) (listVerdict pool B 0) .0 b .1) in
-      let theirs : listVerdict pool B 1 ≡ accepted = accepted-list pool 1 B .1 list in
-      rw (ours .0, ours .1, theirs, room)
+      let ours : listVerdict pool A 0 ≡ accepted = accepted-list pool 0 A .1 (list-of pool A a) in
+      let theirs : listVerdict pool B 1 ≡ accepted = accepted-list pool 1 B .1 (list-of pool B b) in
+      rw (accepted-pool pool A a, ours, theirs, room)
 
   -- what the call leaves in a lent list begins with the words of its items
-  pub call-writes : (Q : List QueryItem) (out : List ℕ)
-      → take (length (wordsAll Q)) (written (manyAnswer pool A B both mine yours) (plain Q) out) ≡ wordsAll Q
-  call-writes Q out =
-      ap (λ (r : Answer ManyCounts). take (length (wordsAll Q)) (written r (plain Q) out)) call-answers ∙ take-append-seam (wordsAll Q) _
+  pub call-writes : (its : List ItemWords) (out : List ℕ)
+      → take (length (flatAll its)) (written (manyAnswer pool A B sharedOut oursOut theirsOut) its out) ≡ flatAll its
+  call-writes its out =
+      ap (λ (r : Answer ManyCounts). take (length (flatAll its)) (written r its out)) call-answers ∙ take-append-seam (flatAll its) _

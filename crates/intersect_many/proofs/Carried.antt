@@ -9,10 +9,11 @@ use Rattle.key_order.proofs.Line.{size}
 use Rattle.query_item.specs.declared.RangeSetItem.{RangeSetItem}
 use Rattle.query_item.specs.declared.RangeSetItem.the-variants.{UnboundedStart, UnboundedEnd, Inclusive, ExclusiveStart, ExclusiveEnd}
 use Rattle.query_item.specs.declared.RangeSet.{RangeSet}
-use Rattle.query_item.specs.Boundaries.{keyOf, compareIn, invertOf, fromTo}
-use Rattle.item_check.specs.Checks.{keyOut}
+use Rattle.query_item.specs.Boundaries.{compareIn, invertOf, fromTo}
+use Rattle.item_check.proofs.Laws.{KeyIn}
 use Rattle.intervals.specs.Lists.{sharedOf, withoutOf}
-use Rattle.intervals.specs.Intervals.{meet, shared, cut, without}
+use Rattle.intervals.specs.Intervals.{cut, without}
+use Rattle.intervals.proofs.Model.{meet, shared}
 use Rattle.intervals.proofs.Laws.{All, all-append, all-shared, all-without, map-shared, map-without}
 use Rattle.intersect.specs.Pair.{before, disjoint, overlap, meetSets, leftOver, rightOver}
 use Rattle.intersect.proofs.Ranked.{Good}
@@ -20,10 +21,6 @@ use Rattle.intersect.proofs.Intervals as pair
 use Rattle.intersect.proofs.Intervals.{either}
 use Rattle.intersect_many.specs.Lists.{cutSets}
 pub use Rattle.intersect.proofs.Intervals.{iv}
-
--- a key of the pool that is not refused; an unbounded boundary has none
-abbrev pub KeyIn : List ℕ → RangeSetItem → Type 0
-KeyIn pool x = keyOut pool (keyOf x) ≡ false
 
 abbrev KeysIn : List ℕ → RangeSet → Type 0
 KeysIn pool a = KeyIn pool (a .start) × KeyIn pool (a .end)

@@ -2,74 +2,67 @@
 -- is left out of a result; left out before or after, the rest is the same (Parts.antt).
 -- Assumes nothing.
 use Prim.Native.Nat.{ℕ, _+_, _≤_}
-use mathlib.Core.Path.{_≡_, refl, sym, ap, ap₂, _∙_}
-use mathlib.Core.Bool.{Bool, true, false, not, _&&_, _||_}
-use mathlib.Core.List.{List, [], _∷_, map}
+use mathlib.Core.Path.{_≡_, sym, ap, _∙_}
+use mathlib.Core.Bool.{false, not, _&&_, _||_}
+use mathlib.Core.List.{List, map, map-map}
 use native.Mathlib.Nat.{le-refl}
 use native.Mathlib.Omega.{arith}
 use Rattle.key_order.proofs.Line.{size}
 use Rattle.key_order.proofs.Ranks.{keyRank}
 use Rattle.query_item.specs.declared.ItemWords.{ItemWords}
-use Rattle.query_item.specs.declared.QueryItem.{QueryItem}
 use Rattle.query_item.specs.declared.RangeSet.{RangeSet}
-use Rattle.query_item.specs.Items.{queryItem, holdsAny}
-use Rattle.query_item.specs.Boundaries.{rangeOf, toRangeSet}
-use Rattle.query_item.proofs.Laws.{holds-interval}
-use Rattle.item_check.specs.Checks.{poolVerdict, listVerdict, itemsOf}
-use Rattle.item_check.proofs.Laws.{AcceptedList, accepts, accepted-list}
+use Rattle.query_item.specs.Items.{flatAll}
+use Rattle.query_item.specs.Boundaries.{rangeOf}
+use Rattle.query_item.proofs.Laws.{holds-any-interval}
+use Rattle.item_check.specs.Checks.{itemsOf}
+use Rattle.item_check.proofs.Laws.{AcceptedList}
+use Rattle.item_lists.specs.Lists.{Accepted, Fits, listHolds, SameItems}
+use Rattle.item_lists.proofs.Accepted.{list-of, accepted-by}
+use Rattle.item_lists.proofs.Read.{items-flat}
 use Rattle.intervals.specs.Lists.{sharedOf, withoutOf}
-use Rattle.intervals.specs.Intervals.{Interval, Strict, holds, shared, without}
+use Rattle.intervals.specs.Intervals.{Interval, holds, without}
+use Rattle.intervals.proofs.Model.{Strict, shared}
 use Rattle.intervals.proofs.Laws as intervals
 use Rattle.intervals.proofs.Laws.{All, keep-passes}
+use Rattle.intervals.proofs.Members.{either-way, never-both}
 use Rattle.intersect.specs.Pair.{meetSets}
 use Rattle.keyless.specs.Keyless.{keyless, keyed}
-use Rattle.intersect_many.specs.Lists.{setsOf, sharedSets, cutSets, onlySets, keyedItems, sharedItems, onlyItems, wordsAll}
-use Rattle.intersect_many.specs.Demand.{sharedWords, withoutWords, Accepted, Fits, listHolds, EachHolds, SameItems}
+use Rattle.intersect_many.specs.Lists.{setsOf, sharedSets, cutSets, onlySets, keyedItems, sharedItems, onlyItems}
+use Rattle.intersect_many.specs.Demand.{sharedWords, withoutWords, EachHolds}
 use Rattle.intersect_many.proofs.Carried.{iv, Fine, shared-fine, shared-carried, without-fine, without-carried}
-use Rattle.intersect_many.proofs.Listed.{items-of-words, sets-of-words, itemIv, convert-fine, convert-carried, words-hold, words-accepted}
+use Rattle.intersect_many.proofs.Listed.{sets-of-words, itemIv, convert-sound, convert-carried, words-hold, words-accepted}
 use Rattle.intersect_many.proofs.Parts.{fine-keyed, holds-keyed, above-keyed, shared-keyed, shared-keyed-second, without-keyed}
 use Rattle.intersect_many.proofs.Shown.{same-keyed, same-shown}
 use Rattle.intersect_many.proofs.Sound.{list-fine, list-strict}
 
 -- ---- lists as intervals
 
-list-of : (pool ws : List ℕ) → Accepted pool ws → AcceptedList pool ws
-list-of pool ws h = accepted-list pool 0 ws .0 (accepts (poolVerdict pool) (listVerdict pool ws 0) .0 h .1)
-
-accepted-by : (pool A ws : List ℕ) → Accepted pool A → AcceptedList pool ws → Accepted pool ws
-accepted-by pool A ws h a =
-    accepts (poolVerdict pool) (listVerdict pool ws 0) .1 (accepts (poolVerdict pool) (listVerdict pool A 0) .0 h .0, accepted-list pool 0 ws .1 a)
-
 module _ (pool : List ℕ) (n : ℕ) (fits : size pool ≤ n) where
   abbrev ivs : List ℕ → List Interval
   ivs ws = map (iv pool n fits) (setsOf ws)
 
-  words-ivs : (Q : List QueryItem) → ivs (wordsAll Q) ≡ map (itemIv pool n fits) Q
-  words-ivs Q = rw (sets-of-words Q) (go Q)
-    where
-      go : (Q : List QueryItem) → map (iv pool n fits) (map toRangeSet Q) ≡ map (itemIv pool n fits) Q
-      go [] = refl
-      go (q ∷ Q) = ap₂ _∷_ refl (go Q)
+  words-ivs : (its : List ItemWords) → ivs (flatAll its) ≡ map (itemIv pool n fits) its
+  words-ivs its = rw (sets-of-words its) (map-map (iv pool n fits) rangeOf its)
 
   -- ---- ranges S as a result list
 
   module _ (S : List RangeSet) (h : All (Fine pool n fits) S) where
     -- as intervals: of those that hold a key
-    result-ivs : ivs (wordsAll (keyedItems pool S)) ≡ map (iv pool n fits) (keyed pool S)
+    result-ivs : ivs (flatAll (keyedItems pool S)) ≡ map (iv pool n fits) (keyed pool S)
     unfolding keyedItems
     result-ivs = words-ivs (keyedItems pool S) ∙ convert-carried pool n fits (keyed pool S) (fine-keyed pool n fits S h)
 
     -- the keys that it holds: what is left out holds none
-    result-holds : (k : List ℕ) → size k ≤ n → holds (ivs (wordsAll (keyedItems pool S))) (keyRank n k) ≡ holds (map (iv pool n fits) S) (keyRank n k)
+    result-holds : (k : List ℕ) → size k ≤ n → holds (ivs (flatAll (keyedItems pool S))) (keyRank n k) ≡ holds (map (iv pool n fits) S) (keyRank n k)
     result-holds k l = ap (λ (L : List Interval). holds L (keyRank n k)) result-ivs ∙ holds-keyed pool n fits S h k l
 
-    result-accepted : Strict (map (iv pool n fits) S) → Fits (keyedItems pool S) → AcceptedList pool (wordsAll (keyedItems pool S))
+    result-accepted : Strict (map (iv pool n fits) S) → Fits (keyedItems pool S) → AcceptedList pool (flatAll (keyedItems pool S))
     unfolding keyedItems
     result-accepted s f =
-        words-accepted pool n fits (keyedItems pool S) (convert-fine pool n fits (keyed pool S) (fine-keyed pool n fits S h))
+        words-accepted pool n fits (keyedItems pool S) (convert-sound pool n fits (keyed pool S) (fine-keyed pool n fits S h))
         (rw (← words-ivs (keyedItems pool S), result-ivs) (above-keyed pool n fits 0 S s)) f
 
-    result-each-holds : EachHolds pool (itemsOf (wordsAll (keyedItems pool S)))
+    result-each-holds : EachHolds pool (itemsOf (flatAll (keyedItems pool S)))
     unfolding keyedItems
     result-each-holds = words-hold pool n fits (keyed pool S) (fine-keyed pool n fits S h) (keep-passes (λ s. not (keyless pool s)) S)
 
@@ -88,14 +81,9 @@ module _ (pool : List ℕ) (n : ℕ) (fits : size pool ≤ n) where
     without-sets : All (Fine pool n fits) (onlySets pool A B)
     without-sets = without-fine pool n fits (setsOf A) (setsOf B) (list-fine pool n fits A a) (list-fine pool n fits B b)
 
-  any-holds : (its : List ItemWords) (k : List ℕ) → size k ≤ n → holdsAny pool its k ≡ holds (map (iv pool n fits) (map rangeOf its)) (keyRank n k)
-  unfolding holds holdsAny
-  any-holds [] k l = refl
-  any-holds (it ∷ its) k l = rw (holds-interval pool n fits (queryItem it) k l, any-holds its k l)
-
   -- a list holds a key where its intervals hold the key's rank
   list-holds : (ws : List ℕ) (k : List ℕ) → size k ≤ n → listHolds pool ws k ≡ holds (ivs ws) (keyRank n k)
-  list-holds ws k l = any-holds (itemsOf ws) k l
+  list-holds ws k l = holds-any-interval pool n fits (itemsOf ws) k l
 
 -- ---- 1: every key of A, of any length, is in exactly one of the two, and neither holds another key
 
@@ -137,21 +125,11 @@ module _ (pool A B : List ℕ) (a : Accepted pool A) (b : Accepted pool B) (k : 
 
   -- a key that A holds is in one of the two, and no other key is
   pub in-one : listHolds pool A k ≡ listHolds pool (sharedWords pool A B) k || listHolds pool (withoutWords pool A B) k
-  in-one = rw (shared-holds, without-holds) (go (listHolds pool A k) (listHolds pool B k))
-    where
-      go : (p q : Bool) → p ≡ (p && q) || (p && not q)
-      go true true = refl
-      go true false = refl
-      go false q = refl
+  in-one = rw (shared-holds, without-holds) (either-way (listHolds pool A k) (listHolds pool B k))
 
   -- no key is in both
   pub not-in-both : listHolds pool (sharedWords pool A B) k && listHolds pool (withoutWords pool A B) k ≡ false
-  not-in-both = rw (shared-holds, without-holds) (go (listHolds pool A k) (listHolds pool B k))
-    where
-      go : (p q : Bool) → (p && q) && (p && not q) ≡ false
-      go true true = refl
-      go true false = refl
-      go false q = refl
+  not-in-both = rw (shared-holds, without-holds) (never-both (listHolds pool A k) (listHolds pool B k))
 
 -- ---- 4: each result that fits is an accepted list
 
@@ -219,10 +197,10 @@ module _ (pool : List ℕ) where
   -- ---- 2 and 3: the same list, item by item, by kind and key bytes
 
   same-words : (S T : List RangeSet) → ivsOf (keyed pool S) ≡ ivsOf (keyed pool T)
-      → SameItems pool (wordsAll (keyedItems pool S)) (wordsAll (keyedItems pool T))
+      → SameItems pool (flatAll (keyedItems pool S)) (flatAll (keyedItems pool T))
   unfolding keyedItems
   same-words S T e =
-      rw (items-of-words (keyedItems pool S), items-of-words (keyedItems pool T))
+      rw (items-flat (keyedItems pool S), items-flat (keyedItems pool T))
       (same-shown pool (size pool) at (keyed pool S) (keyed pool T) e)
 
   -- with others in place of S and T, the same as intervals, what is shared or kept is the same, and the same is left out

@@ -1,45 +1,41 @@
 -- DEMAND 3 (01 demand.3, tight.7, 02 §2.5), as laws of the lists that `intersect_many_ordered` writes, for any accepted lists A, B, C over one pool.
--- What a reader must believe is in specs/Demand.antt and specs/Lists.antt; each law is proved in Called.antt, Room.antt or Demanded.antt. The laws
+-- What a reader must believe is in specs/Demand.antt, specs/Lists.antt and specs/Lists.antt of `item_lists`; each law is proved in Called.antt, Room.antt or Demanded.antt. The laws
 -- of Shown.antt, of any lists over two pools, are passed on. Assumes nothing.
-use Prim.Native.Nat.{ℕ, _*_}
+use Prim.Native.Nat.{ℕ}
 use mathlib.Core.Path.{_≡_}
 use mathlib.Core.Bool.{false, not, _&&_, _||_}
 use mathlib.Core.List.{List}
 use lib.ListN.{length, take}
-use Rattle.query_item.specs.declared.QueryItem.{QueryItem}
-use Rattle.query_item.specs.Items.{itemSize}
 use Rattle.item_check.specs.Checks.{answered, itemsOf}
-use Rattle.item_lists.specs.Written.{plain, written}
-use Rattle.intersect_many.specs.Lists.{sharedItems, onlyItems, wordsAll, lacksRoom, countsOf, manyAnswer}
-use Rattle.intersect_many.specs.Demand.{sharedWords, withoutWords, Accepted, Fits, listHolds, EachHolds, SameItems}
-use Rattle.intersect_many.proofs.Room.{length-words}
+use Rattle.item_lists.specs.Lists.{Accepted, Fits, listHolds, SameItems}
+use Rattle.item_lists.specs.Written.{written}
+use Rattle.intersect_many.specs.Lists.{sharedItems, onlyItems, lacksRoom, countsOf, manyAnswer}
+use Rattle.intersect_many.specs.Demand.{sharedWords, withoutWords, EachHolds}
 use Rattle.intersect_many.proofs.Called as called
 use Rattle.intersect_many.proofs.Demanded as demanded
+-- six words for each item that is counted
+pub use Rattle.item_lists.proofs.Written.{length-flat}
 -- the lists and the answer go by what the given lists show, whatever pool their keys stand in
 pub use Rattle.intersect_many.proofs.Shown.{shared-shown, only-shown, many-answer-shown}
 
-module _ (pool A B : List ℕ) (a : Accepted pool A) (b : Accepted pool B) (both mine yours : List ℕ)
-    (room : lacksRoom (countsOf pool A B) both mine yours ≡ false) where
+module _ (pool A B : List ℕ) (a : Accepted pool A) (b : Accepted pool B) (sharedOut oursOut theirsOut : List ℕ)
+    (room : lacksRoom (countsOf pool A B) sharedOut oursOut theirsOut ≡ false) where
   -- 0. Where the lent lists have room the call answers, with the counts of the three lists
-  pub call-answers : manyAnswer pool A B both mine yours ≡ answered (countsOf pool A B)
-  call-answers = called.call-answers pool A B a b both mine yours room
+  pub call-answers : manyAnswer pool A B sharedOut oursOut theirsOut ≡ answered (countsOf pool A B)
+  call-answers = called.call-answers pool A B a b sharedOut oursOut theirsOut room
 
   -- and leaves at the front of each lent list the words that the laws below speak of: A shared with B, A without B, B without A
-  pub writes-shared : take (length (sharedWords pool A B)) (written (manyAnswer pool A B both mine yours) (plain (sharedItems pool A B)) both)
+  pub writes-shared : take (length (sharedWords pool A B)) (written (manyAnswer pool A B sharedOut oursOut theirsOut) (sharedItems pool A B) sharedOut)
       ≡ sharedWords pool A B
-  writes-shared = called.call-writes pool A B a b both mine yours room (sharedItems pool A B) both
+  writes-shared = called.call-writes pool A B a b sharedOut oursOut theirsOut room (sharedItems pool A B) sharedOut
 
-  pub writes-ours : take (length (withoutWords pool A B)) (written (manyAnswer pool A B both mine yours) (plain (onlyItems pool A B)) mine)
+  pub writes-ours : take (length (withoutWords pool A B)) (written (manyAnswer pool A B sharedOut oursOut theirsOut) (onlyItems pool A B) oursOut)
       ≡ withoutWords pool A B
-  writes-ours = called.call-writes pool A B a b both mine yours room (onlyItems pool A B) mine
+  writes-ours = called.call-writes pool A B a b sharedOut oursOut theirsOut room (onlyItems pool A B) oursOut
 
-  pub writes-theirs : take (length (withoutWords pool B A)) (written (manyAnswer pool A B both mine yours) (plain (onlyItems pool B A)) yours)
+  pub writes-theirs : take (length (withoutWords pool B A)) (written (manyAnswer pool A B sharedOut oursOut theirsOut) (onlyItems pool B A) theirsOut)
       ≡ withoutWords pool B A
-  writes-theirs = called.call-writes pool A B a b both mine yours room (onlyItems pool B A) yours
-
--- six words for each item that is counted
-pub words-counted : (Q : List QueryItem) → length (wordsAll Q) ≡ itemSize * length Q
-words-counted Q = length-words Q
+  writes-theirs = called.call-writes pool A B a b sharedOut oursOut theirsOut room (onlyItems pool B A) theirsOut
 
 module _ (pool A B : List ℕ) (a : Accepted pool A) (b : Accepted pool B) where
   -- 1. Shared holds exactly what both hold, without exactly what A holds and B does not: keys k of any length

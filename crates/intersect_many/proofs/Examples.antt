@@ -6,14 +6,14 @@ use Rattle.key_order.specs.Order.{compareNumbers, compareKeys}
 use Rattle.key_order.specs.Boundary.{compareBoundaries}
 use Rattle.intervals.specs.Lists.{meetsOf, sharedOf, cutsOf, withoutOf, keep}
 use Rattle.query_item.specs.declared.KeyAt.{KeyAt}
-use Rattle.query_item.specs.declared.QueryItem.{QueryItem}
+use Rattle.query_item.specs.declared.ItemWords.{ItemWords}
 use Rattle.query_item.specs.declared.QueryItem.the-variants.{Range, RangeInclusive, RangeFrom, RangeAfter, RangeAfterTo}
-use Rattle.query_item.specs.Items.{keyAt, absent, itemAt, itemsFrom}
+use Rattle.query_item.specs.Items.{keyAt, absent, wordsOf, itemAt, itemsFrom}
 use Rattle.keyless.specs.Keyless.{keyless}
 use Rattle.item_check.specs.Checks.{answered, firstBad, firstBreak, strictVerdict}
+use Rattle.item_lists.specs.Lists.{Accepted}
 use Rattle.intersect.specs.Pair.{meetSets, leftOver, rightOver}
 use Rattle.intersect_many.specs.Lists.{convertAll, keyedItems, sharedItems, onlyItems, manyAnswer}
-use Rattle.intersect_many.specs.Demand.{Accepted}
 
 -- the keys 01, 05, 05 00, 05 01 and 09
 abbrev pool : List ℕ
@@ -39,7 +39,7 @@ abbrev item : ℕ → KeyAt → KeyAt → List ℕ
 item code a b = code ∷ 0 ∷ a .offset ∷ a .length ∷ b .offset ∷ b .length ∷ []
 
 abbrev Three : Type 0
-Three = List QueryItem × List QueryItem × List QueryItem
+Three = List ItemWords × List ItemWords × List ItemWords
 
 abbrev three : List ℕ → List ℕ → Three
 three A B = (sharedItems pool A B, onlyItems pool A B, onlyItems pool B A)
@@ -56,19 +56,19 @@ left-out :
     ∷ three (item 8 k05 k0500) []
     ∷ three (item 7 k05 absent) []
     ∷ []
-    ≡ (RangeFrom absent ∷ [], [], [])
-    ∷ (Range k0500 k09 ∷ [], [], [])
-    ∷ (Range k0501 k09 ∷ [], RangeAfterTo k05 k0501 ∷ [], [])
-    ∷ ([], RangeInclusive k01 k05 ∷ RangeInclusive k0500 k09 ∷ [], [])
+    ≡ (wordsOf 0 (RangeFrom absent) ∷ [], [], [])
+    ∷ (wordsOf 0 (Range k0500 k09) ∷ [], [], [])
+    ∷ (wordsOf 0 (Range k0501 k09) ∷ [], wordsOf 0 (RangeAfterTo k05 k0501) ∷ [], [])
+    ∷ ([], wordsOf 0 (RangeInclusive k01 k05) ∷ wordsOf 0 (RangeInclusive k0500 k09) ∷ [], [])
     ∷ ([], [], [])
-    ∷ ([], RangeAfter k05 ∷ [], [])
+    ∷ ([], wordsOf 0 (RangeAfter k05) ∷ [], [])
     ∷ []
 unfolding compareNumbers compareKeys compareBoundaries itemAt itemsFrom meetsOf sharedOf cutsOf withoutOf keep meetSets leftOver rightOver keyless convertAll keyedItems sharedItems onlyItems
 left-out = refl
 
 -- the room that a list needs is that of what is left: P6's two items need none for ours
 room-of-what-is-left : manyAnswer pool (item 3 absent absent) (item 4 absent absent) (item 0 absent absent) [] []
-    ≡ answered (record { «in_both» = 1; ours = 0; theirs = 0 })
+    ≡ answered (record { shared = 1; ours = 0; theirs = 0 })
 unfolding compareNumbers compareKeys compareBoundaries itemAt itemsFrom firstBad firstBreak strictVerdict meetsOf sharedOf cutsOf withoutOf keep meetSets leftOver rightOver keyless convertAll keyedItems sharedItems onlyItems
 room-of-what-is-left = refl
 

@@ -1,6 +1,5 @@
 pub mod Pieces
 pub mod Ranked
-pub mod Written
 pub mod Rests
 pub mod Swept
 pub mod Room

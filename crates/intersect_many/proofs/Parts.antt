@@ -11,7 +11,8 @@ use Rattle.query_item.specs.declared.RangeSet.{RangeSet}
 use Rattle.keyless.specs.Keyless.{keyless, keyed}
 use Rattle.keyless.proofs.Laws.{keyless-inside, part-of-keyless}
 use Rattle.intervals.specs.Lists.{sharedOf, withoutOf, keep}
-use Rattle.intervals.specs.Intervals.{Above, inside, holds}
+use Rattle.intervals.specs.Intervals.{inside, holds}
+use Rattle.intervals.proofs.Model.{Above}
 use Rattle.intervals.proofs.Laws.{All, Dropped, all-keep, keep-shared, keep-shared-second, keep-without}
 use Rattle.intervals.proofs.Ordered.{above-le}
 use Rattle.intervals.proofs.Pieces.{Within, meet-within, meet-within-second, cut-within}

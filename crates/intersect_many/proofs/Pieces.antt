@@ -12,11 +12,10 @@ use Rattle.query_item.specs.declared.RangeSet.{RangeSet}
 use Rattle.query_item.specs.declared.MaybeItem.the-variants.{NoItem}
 use Rattle.query_item.specs.Boundaries.{compareIn, invertOf, fromTo, toQueryItem}
 use Rattle.keyless.specs.Keyless.{keyless, keyed, pieceItem}
-use Rattle.item_lists.specs.Written.{asItems}
+use Rattle.item_lists.specs.Written.{asItems, Put}
+use Rattle.item_lists.proofs.Written.{at-most-one, put-none}
 use Rattle.intersect.specs.Pair.{before, disjoint, overlap, meetSets, leftPart, leftOver}
 use Rattle.intersect_many.specs.Lists.{convertAll, keyedItems}
-use Rattle.intersect_many.specs.Sweep.{Put}
-use Rattle.intersect_many.proofs.Written.{one, put-none}
 
 convert-append : (pool : List ℕ) (S T : List RangeSet) → convertAll pool (S ++ T) ≡ convertAll pool S ++ convertAll pool T
 unfolding convertAll
@@ -48,9 +47,9 @@ put-none-keyed pool out n = rw (keyed-none pool) (put-none out n)
 
 -- ---- a turn makes at most one item for each list
 
-at-most-one : (pool : List ℕ) (t : Bool) (s : RangeSet) (S : List RangeSet) → length (keyedItems pool S) ≤ 1 → length (keyedItems pool (cond t (s ∷ []) S)) ≤ 1
-at-most-one pool true s S h = rw (keyed-one pool s) (one (pieceItem pool s))
-at-most-one pool false s S h = h
+one-or : (pool : List ℕ) (t : Bool) (s : RangeSet) (S : List RangeSet) → length (keyedItems pool S) ≤ 1 → length (keyedItems pool (cond t (s ∷ []) S)) ≤ 1
+one-or pool true s S h = rw (keyed-one pool s) (at-most-one (pieceItem pool s))
+one-or pool false s S h = h
 
 none-or : (pool : List ℕ) (t : Bool) (S : List RangeSet) → length (keyedItems pool S) ≤ 1 → length (keyedItems pool (cond t [] S)) ≤ 1
 none-or pool true S h = rw (keyed-none pool) (omega arith)
@@ -61,11 +60,11 @@ no-item pool = rw (keyed-none pool) (omega arith)
 
 pub meet-few : (pool : List ℕ) (a b : RangeSet) → length (keyedItems pool (meetSets pool a b)) ≤ 1
 unfolding meetSets
-meet-few pool a b = none-or pool (disjoint pool a b) (overlap pool a b ∷ []) (at-most-one pool true (overlap pool a b) [] (no-item pool))
+meet-few pool a b = none-or pool (disjoint pool a b) (overlap pool a b ∷ []) (one-or pool true (overlap pool a b) [] (no-item pool))
 
 pub left-few : (pool : List ℕ) (a b : RangeSet) → length (keyedItems pool (leftOver pool a b)) ≤ 1
 unfolding leftOver
 left-few pool a b =
-    at-most-one pool (before pool a b) a (cond (before pool b a) [] (leftPart pool a b))
+    one-or pool (before pool a b) a (cond (before pool b a) [] (leftPart pool a b))
     (none-or pool (before pool b a) (leftPart pool a b)
-    (at-most-one pool (isLess (compareIn pool (a .start) (b .start))) (fromTo (a .start) (invertOf (b .start) false)) [] (no-item pool)))
+    (one-or pool (isLess (compareIn pool (a .start) (b .start))) (fromTo (a .start) (invertOf (b .start) false)) [] (no-item pool)))

@@ -136,7 +136,7 @@ module _ (pool : List ℕ) (n : ℕ) (fits : size pool ≤ n) where
       go false p = refl
 
   -- a stands before b: the two share nothing, x is whole, y has nothing below a and stays
-  pub record Apart (a b x y : RangeSet) : Type 0 where
+  pub record Ahead (a b x y : RangeSet) : Type 0 where
     pub shared : meetSets pool a b ≡ []
     pub shared-past : meetSets pool b a ≡ []
     pub whole : leftOver pool x b ≡ x ∷ []
@@ -144,10 +144,10 @@ module _ (pool : List ℕ) (n : ℕ) (fits : size pool ≤ n) where
     pub kept : rightSet pool y a ≡ y
     pub sooner : rk (a .end) < rk (b .end)
 
-  pub apart : (a b x y : RangeSet) → Good a → Good b → Good x → Good y → x .end ≡ a .end → rk (b .start) ≤ rk (y .start) → before pool a b ≡ true
-      → Apart a b x y
+  pub ahead : (a b x y : RangeSet) → Good a → Good b → Good x → Good y → x .end ≡ a .end → rk (b .start) ≤ rk (y .start) → before pool a b ≡ true
+      → Ahead a b x y
   unfolding rightSet
-  apart a b x y A B X Y e l f =
+  ahead a b x y A B X Y e l f =
       let below = before-says a b f in
       let ends : rk (x .end) ≡ rk (a .end) = ap rk e in
       record {

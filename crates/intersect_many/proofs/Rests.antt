@@ -1,21 +1,22 @@
 -- The ranges of a list that are left at an index. Assumes nothing.
-use Prim.Native.Nat.{ℕ, zero, suc, _+_, _-_, _/_, _≤_, _<_}
-use mathlib.Core.Path.{_≡_, refl, ap}
-use mathlib.Core.List.{List, [], _∷_, _++_, map}
+use Prim.Native.Nat.{ℕ, _+_, _-_, _/_, _≤_, _<_}
+use mathlib.Core.Path.{_≡_, refl}
+use mathlib.Core.List.{List, [], _∷_, _++_}
 use native.Mathlib.Decide.{decLt}
 use native.Mathlib.Nat.{sub-zero}
 use native.Mathlib.Omega.{arith}
-use lib.ListN.{length, length-append}
+use lib.ListN.{length, length-append, length-map}
 use Rattle.query_item.specs.declared.RangeSet.{RangeSet}
 use Rattle.query_item.specs.Items.{itemSize, itemsFrom}
 use Rattle.query_item.specs.Boundaries.{rangeOf, setAt}
 use Rattle.keyless.specs.Keyless.{pieceItem}
 use Rattle.item_check.proofs.Laws.{items-end, items-more}
 use Rattle.item_lists.specs.Written.{asItems}
+use Rattle.item_lists.proofs.Written.{at-most-one}
+use Rattle.item_lists.proofs.Words.{length-items}
 use Rattle.intersect_many.specs.Lists.{setsOf, keyedItems}
 use Rattle.intersect_many.specs.Sweep.{setsLeft, withHead, restLeft}
 use Rattle.intersect_many.proofs.Pieces.{keyed-none, keyed-cons}
-use Rattle.intersect_many.proofs.Written.{one}
 
 -- at the first index all are
 pub sets-all : (ws : List ℕ) → setsLeft ws 0 ≡ setsOf ws
@@ -53,12 +54,7 @@ keyed-rest pool ws i x h = rw (rest-more ws i x h) (keyed-cons pool x (setsLeft 
 
 keyed-length : (pool : List ℕ) (S : List RangeSet) → length (keyedItems pool S) ≤ length S
 keyed-length pool [] = rw (keyed-none pool) (omega arith)
-keyed-length pool (s ∷ S) = rw (keyed-cons pool s S, length-append) (omega (arith, one (pieceItem pool s), keyed-length pool S))
-
-length-left : (ws : List ℕ) (i k : ℕ) → length (map rangeOf (itemsFrom ws i k)) ≡ k
-unfolding itemsFrom
-length-left ws i zero = refl
-length-left ws i (suc k) = ap suc (length-left ws (suc i) k)
+keyed-length pool (s ∷ S) = rw (keyed-cons pool s S, length-append) (omega (arith, at-most-one (pieceItem pool s), keyed-length pool S))
 
 length-head : (x : RangeSet) (S : List RangeSet) → length (withHead x S) ≡ length S
 length-head x [] = refl
@@ -66,4 +62,4 @@ length-head x (s ∷ S) = refl
 
 pub rest-few : (pool ws : List ℕ) (i : ℕ) (x : RangeSet) → length (keyedItems pool (restLeft ws i x)) ≤ length ws / itemSize - i
 rest-few pool ws i x =
-    omega (arith, keyed-length pool (restLeft ws i x), length-head x (setsLeft ws i), length-left ws i (length ws / itemSize - i))
+    omega (arith, keyed-length pool (restLeft ws i x), length-head x (setsLeft ws i), length-map (itemsFrom ws i (length ws / itemSize - i)) rangeOf, length-items ws i (length ws / itemSize - i))

@@ -4,31 +4,26 @@
 use Prim.Native.Nat.{ℕ, _+_, _≤_}
 use mathlib.Core.Path.{_≡_, refl, sym, ap, ap₂, _∙_}
 use mathlib.Core.List.{List, [], _∷_, _++_, map, map-append, map-map, flatMap}
-use native.Mathlib.Omega.{arith}
-use lib.ListN.{length, length-map}
-use Rattle.key_order.specs.Boundary.{Boundary}
 use Rattle.key_order.proofs.Line.{size}
 use Rattle.key_order.proofs.Ranks.{rank}
-use Rattle.query_item.specs.declared.QueryItem.{QueryItem}
 use Rattle.query_item.specs.declared.RangeSet.{RangeSet}
 use Rattle.query_item.specs.declared.MaybeItem.{MaybeItem}
 use Rattle.query_item.specs.declared.MaybeItem.the-variants.{NoItem, Item}
-use Rattle.query_item.specs.Items.{wordsOf, shown}
+use Rattle.query_item.specs.Items.{shown, SameShown}
 use Rattle.query_item.specs.Boundaries.{toQueryItem}
-use Rattle.query_item.proofs.Laws.{Sides, seen, toldItem, shownItem, item-seen, ranges-seen, rank-same-in}
+use Rattle.query_item.proofs.Laws.{Sides, seen, toldItem, shownItem, item-seen, ranges-seen, length-shown, same-seen}
 use Rattle.intervals.specs.Intervals.{Interval}
 use Rattle.intervals.specs.Lists.{sharedOf, withoutOf}
 use Rattle.intervals.proofs.Laws.{All, all-of, map-shared, map-without}
 use Rattle.item_check.specs.Checks.{andThen, answered, itemsOf}
-use Rattle.item_lists.specs.Written.{asItems, plain}
+use Rattle.item_lists.specs.Written.{asItems}
 use Rattle.keyless.specs.Keyless.{keyed}
 use Rattle.keyless.proofs.Laws.{keyedSides, keyed-seen}
 use Rattle.intersect.specs.Pair.{meetSets, leftOver, rightOver}
 use Rattle.intersect.proofs.Seen.{meetSides, leftSides, rightSides, meet-seen, left-seen, right-seen}
 use Rattle.intersect_many.specs.declared.ManyCounts.{ManyCounts}
 use Rattle.intersect_many.specs.Lists.{setsOf, sharedSets, cutSets, onlySets, convertAll, keyedItems, sharedItems, onlyItems}
-use Rattle.intersect_many.specs.Lists.{listsVerdict, roomVerdict, countsOf, manyAnswer}
-use Rattle.intersect_many.proofs.Written.{length-plain}
+use Rattle.intersect_many.specs.Lists.{listsVerdict, listsRoomVerdict, countsOf, manyAnswer}
 use Rattle.intersect_many.proofs.Carried.{iv}
 
 -- ---- lists of ranges, seen as boundaries
@@ -51,30 +46,29 @@ module _ (pool : List ℕ) where
       map-without (seen pool) (λ s. Unit {0}) (cutSets pool) cutSides (λ a b p q. any (cutSets pool a b)) (λ a b p q. cut-seen a b) S T (any S) (any T)
 
   -- the items that are written
-  items-seen : (S : List RangeSet) → map (shown pool) (plain (convertAll pool S)) ≡ flatMap toldItem (map (seen pool) S)
+  items-seen : (S : List RangeSet) → map (shown pool) (convertAll pool S) ≡ flatMap toldItem (map (seen pool) S)
   unfolding convertAll flatMap
   items-seen [] = refl
   items-seen (s ∷ S) =
-      ap (map (shown pool)) (map-append (wordsOf 0) (asItems (toQueryItem pool s)) (convertAll pool S))
-      ∙ map-append (shown pool) (plain (asItems (toQueryItem pool s))) (plain (convertAll pool S))
+      map-append (shown pool) (asItems (toQueryItem pool s)) (convertAll pool S)
       ∙ ap₂ _++_ (one (toQueryItem pool s) ∙ item-seen pool s) (items-seen S)
     where
-      one : (m : MaybeItem) → map (shown pool) (plain (asItems m)) ≡ shownItem pool m
+      one : (m : MaybeItem) → map (shown pool) (asItems m) ≡ shownItem pool m
       one NoItem = refl
       one (Item q) = refl
 
-  keyed-items-seen : (S : List RangeSet) → map (shown pool) (plain (keyedItems pool S)) ≡ flatMap toldItem (keyedSides (map (seen pool) S))
+  keyed-items-seen : (S : List RangeSet) → map (shown pool) (keyedItems pool S) ≡ flatMap toldItem (keyedSides (map (seen pool) S))
   unfolding keyedItems
   keyed-items-seen S = items-seen (keyed pool S) ∙ ap (flatMap toldItem) (keyed-seen pool S)
 
 -- ---- of lists that show the same, of one pool or of two
 
 module _ (P Q : List ℕ) where
-  result-shown : (S T : List RangeSet) → map (seen P) S ≡ map (seen Q) T → map (shown P) (plain (keyedItems P S)) ≡ map (shown Q) (plain (keyedItems Q T))
+  result-shown : (S T : List RangeSet) → map (seen P) S ≡ map (seen Q) T → SameShown P Q (keyedItems P S) (keyedItems Q T)
   result-shown S T e = keyed-items-seen P S ∙ ap (λ (L : List Sides). flatMap toldItem (keyedSides L)) e ∙ sym (keyed-items-seen Q T)
 
-  module _ (A B A′ B′ : List ℕ) (a : map (shown P) (itemsOf A) ≡ map (shown Q) (itemsOf A′))
-      (b : map (shown P) (itemsOf B) ≡ map (shown Q) (itemsOf B′)) where
+  module _ (A B A′ B′ : List ℕ) (a : SameShown P Q (itemsOf A) (itemsOf A′))
+      (b : SameShown P Q (itemsOf B) (itemsOf B′)) where
     ours : map (seen P) (setsOf A) ≡ map (seen Q) (setsOf A′)
     ours = ranges-seen P Q (itemsOf A) (itemsOf A′) a
 
@@ -82,60 +76,44 @@ module _ (P Q : List ℕ) where
     theirs = ranges-seen P Q (itemsOf B) (itemsOf B′) b
 
     -- what is shared shows the same
-    pub shared-shown : map (shown P) (plain (sharedItems P A B)) ≡ map (shown Q) (plain (sharedItems Q A′ B′))
+    pub shared-shown : SameShown P Q (sharedItems P A B) (sharedItems Q A′ B′)
     unfolding sharedItems
     shared-shown =
         result-shown (sharedSets P A B) (sharedSets Q A′ B′)
         (shared-seen P (setsOf A) (setsOf B) ∙ ap₂ (sharedOf meetSides) ours theirs ∙ sym (shared-seen Q (setsOf A′) (setsOf B′)))
 
     -- and so does what ours keeps without theirs; with sides exchanged, what theirs keeps without ours
-    pub only-shown : map (shown P) (plain (onlyItems P A B)) ≡ map (shown Q) (plain (onlyItems Q A′ B′))
+    pub only-shown : SameShown P Q (onlyItems P A B) (onlyItems Q A′ B′)
     unfolding onlyItems
     only-shown =
         result-shown (onlySets P A B) (onlySets Q A′ B′)
         (without-seen P (setsOf A) (setsOf B) ∙ ap₂ (withoutOf cutSides) ours theirs ∙ sym (without-seen Q (setsOf A′) (setsOf B′)))
 
-  as-many : (X Y : List QueryItem) → map (shown P) (plain X) ≡ map (shown Q) (plain Y) → length X ≡ length Y
-  as-many X Y e = omega (arith, ap length e, length-map (plain X) (shown P), length-map (plain Y) (shown Q), length-plain X, length-plain Y)
-
-  module _ (A B A′ B′ : List ℕ) (a : map (shown P) (itemsOf A) ≡ map (shown Q) (itemsOf A′))
-      (b : map (shown P) (itemsOf B) ≡ map (shown Q) (itemsOf B′)) where
+  module _ (A B A′ B′ : List ℕ) (a : SameShown P Q (itemsOf A) (itemsOf A′))
+      (b : SameShown P Q (itemsOf B) (itemsOf B′)) where
     counts-shown : countsOf P A B ≡ countsOf Q A′ B′
     counts-shown =
-        let e = as-many (sharedItems P A B) (sharedItems Q A′ B′) (shared-shown A B A′ B′ a b) in
-        let f = as-many (onlyItems P A B) (onlyItems Q A′ B′) (only-shown A B A′ B′ a b) in
-        let g = as-many (onlyItems P B A) (onlyItems Q B′ A′) (only-shown B A B′ A′ b a) in
-        λ i. record { «in_both» = e i; ours = f i; theirs = g i }
+        let e = length-shown P Q (sharedItems P A B) (sharedItems Q A′ B′) (shared-shown A B A′ B′ a b) in
+        let f = length-shown P Q (onlyItems P A B) (onlyItems Q A′ B′) (only-shown A B A′ B′ a b) in
+        let g = length-shown P Q (onlyItems P B A) (onlyItems Q B′ A′) (only-shown B A B′ A′ b a) in
+        λ i. record { shared = e i; ours = f i; theirs = g i }
 
     -- The call gives the same answer, in any room. That the verdicts are the same is a premise, since what a list shows does not tell the size of
     -- its pool, words after the last whole item, whether a key reaches past the pool, or whether the words of an absent key are 0
-    pub many-answer-shown : listsVerdict P A B ≡ listsVerdict Q A′ B′ → (both mine yours : List ℕ)
-        → manyAnswer P A B both mine yours ≡ manyAnswer Q A′ B′ both mine yours
-    many-answer-shown v both mine yours =
-        rw v (ap (λ (m : ManyCounts). andThen (listsVerdict Q A′ B′) (andThen (roomVerdict m both mine yours) (answered m))) counts-shown)
+    pub many-answer-shown : listsVerdict P A B ≡ listsVerdict Q A′ B′ → (sharedOut oursOut theirsOut : List ℕ)
+        → manyAnswer P A B sharedOut oursOut theirsOut ≡ manyAnswer Q A′ B′ sharedOut oursOut theirsOut
+    many-answer-shown v sharedOut oursOut theirsOut =
+        rw v (ap (λ (m : ManyCounts). andThen (listsVerdict Q A′ B′) (andThen (listsRoomVerdict m sharedOut oursOut theirsOut) (answered m))) counts-shown)
 
 -- ---- of ranges that are the same as intervals
 
 module _ (pool : List ℕ) (n : ℕ) (fits : size pool ≤ n) where
-  same-seen : (S T : List RangeSet) → map (iv pool n fits) S ≡ map (iv pool n fits) T → map (seen pool) S ≡ map (seen pool) T
-  same-seen [] [] e = refl
-  same-seen [] (t ∷ T) e = absurd (omega (arith, ap length e))
-  same-seen (s ∷ S) [] e = absurd (omega (arith, ap length e))
-  same-seen (s ∷ S) (t ∷ T) e =
-      let head : iv pool n fits s ≡ iv pool n fits t = cc in
-      let tail : map (iv pool n fits) S ≡ map (iv pool n fits) T = cc in
-      let ends = ap (λ (p : Interval). p .1) head in
-      ap₂ _∷_ (ap₂ (λ (s e : Boundary). (s, e))
-      (rank-same-in pool n fits (s .start) (t .start) (ap (λ (p : Interval). p .0) head))
-      (rank-same-in pool n fits (s .end) (t .end) (omega arith)))
-      (same-seen S T tail)
-
   -- the same ones are without a key
   pub same-keyed : (S T : List RangeSet) → map (iv pool n fits) S ≡ map (iv pool n fits) T
       → map (iv pool n fits) (keyed pool S) ≡ map (iv pool n fits) (keyed pool T)
   same-keyed S T e =
       sym (map-map ranks (seen pool) (keyed pool S))
-      ∙ ap (map ranks) (keyed-seen pool S ∙ ap keyedSides (same-seen S T e) ∙ sym (keyed-seen pool T))
+      ∙ ap (map ranks) (keyed-seen pool S ∙ ap keyedSides (same-seen pool n fits S T e) ∙ sym (keyed-seen pool T))
       ∙ map-map ranks (seen pool) (keyed pool T)
     where
       ranks : Sides → Interval
@@ -143,5 +121,5 @@ module _ (pool : List ℕ) (n : ℕ) (fits : size pool ≤ n) where
 
   -- and the items are the same
   pub same-shown : (S T : List RangeSet) → map (iv pool n fits) S ≡ map (iv pool n fits) T
-      → map (shown pool) (plain (convertAll pool S)) ≡ map (shown pool) (plain (convertAll pool T))
-  same-shown S T e = items-seen pool S ∙ ap (flatMap toldItem) (same-seen S T e) ∙ sym (items-seen pool T)
+      → SameShown pool pool (convertAll pool S) (convertAll pool T)
+  same-shown S T e = items-seen pool S ∙ ap (flatMap toldItem) (same-seen pool n fits S T e) ∙ sym (items-seen pool T)

@@ -23,13 +23,13 @@ use Rattle.intervals.proofs.Laws.{AboveOf, Meeting, Cutting}
 use Rattle.intervals.proofs.Laws.{sweepOf, sweep-first, sweep-second, sweep-nil, sweep-is-shared, sweep-skip}
 use Rattle.intervals.proofs.Laws.{stripOf, strip-first, strip-second, strip-nil, strip-is-without, strip-skip, above-le}
 use Rattle.intersect_many.specs.declared.ManyCounts.{ManyCounts}
-use Rattle.item_lists.specs.Written.{asItems}
+use Rattle.item_lists.specs.Written.{asItems, Put}
+use Rattle.item_lists.proofs.Written.{Left, left-start, left-put, left-as}
 use Rattle.intersect.specs.Pair.{before, meetSets, leftOver}
 use Rattle.intersect_many.specs.Lists.{setsOf, keyedItems, sharedItems, cutSets, onlyItems}
-use Rattle.intersect_many.specs.Sweep.{rightSet, setsLeft, restLeft, Put, Turn}
+use Rattle.intersect_many.specs.Sweep.{rightSet, setsLeft, restLeft, Turn, Emits}
 use Rattle.intersect_many.proofs.Pieces.{keyed-append, keyed-none, keyed-one, put-none-keyed, meet-few, left-few}
 use Rattle.intersect_many.proofs.Ranked as ranked
-use Rattle.intersect_many.proofs.Written.{Left, left-start, left-put, left-as}
 use Rattle.intersect_many.proofs.Rests.{sets-all, sets-end, sets-more, rest-end, rest-more, rest-whole}
 
 -- ranks are taken at the pool's size
@@ -98,7 +98,7 @@ module _ (pool : List ℕ) where
     above = le-refl (rk (setAt own 0 .start));
   }
 
-  module _ (own other out₀ : List ℕ) {out out′ : List ℕ} {n n′ : ℕ} (i j : ℕ) (x : RangeSet) (v : Only own other out₀ out n i j x)
+  module _ {own other out₀ out out′ : List ℕ} {n n′ i j : ℕ} {x : RangeSet} (v : Only own other out₀ out n i j x)
       (hi : i < length own / itemSize) (hj : j < length other / itemSize)
       (a : Ascends 0 (setsLeft own i)) (b : Ascends 0 (setsLeft other j))
       (p : Put out n (keyedItems pool (leftOver pool x (setAt other j))) out′ n′) where
@@ -156,12 +156,12 @@ module _ (pool : List ℕ) where
         }
 
   -- the other list has ended, or this one
-  pub only-end : {own other out₀ out : List ℕ} {n : ℕ} (i j : ℕ) (x : RangeSet) → Only own other out₀ out n i j x
+  pub only-end : {own other out₀ out : List ℕ} {n i j : ℕ} {x : RangeSet} → Only own other out₀ out n i j x
       → (length own / itemSize ≤ i) ⊎ (length other / itemSize ≤ j)
       → Left (onlyItems pool own other) out₀ 0 out n (keyedItems pool (restLeft own i x))
   unfolding stripOf
-  only-end {own} {other} i j x v (inl h) = left-as (v .left) _ (rw (rest-end own i x h))
-  only-end {own} {other} i j x v (inr h) = left-as (v .left) _ (rw (sets-end other j h, strip-nil (leftOver pool) (rightSet pool) endsFirst (restLeft own i x)))
+  only-end {own} {other} {i = i} {j = j} {x = x} v (inl h) = left-as (v .left) _ (rw (rest-end own i x h))
+  only-end {own} {other} {i = i} {j = j} {x = x} v (inr h) = left-as (v .left) _ (rw (sets-end other j h, strip-nil (leftOver pool) (rightSet pool) endsFirst (restLeft own i x)))
 
   -- ---- the shared list
 
@@ -184,7 +184,8 @@ module _ (pool : List ℕ) where
     pub shared-next : rk (setAt ours i .end) ≤ rk (setAt theirs j .end) → Shared ours theirs out₀ out′ n′ (i + 1) j
     shared-next l =
         left-put v (keyedItems pool (meetSets pool (setAt ours i) (setAt theirs j))) _
-        (ap (keyedItems pool) (heads ∙ sweep-first (meetSets pool) endsFirst (setAt ours i) (setsLeft ours (i + 1)) (setAt theirs j) (setsLeft theirs (j + 1)) (ends-yes (setAt ours i) (setAt theirs j) l))
+        (ap (keyedItems pool)
+        (heads ∙ sweep-first (meetSets pool) endsFirst (setAt ours i) (setsLeft ours (i + 1)) (setAt theirs j) (setsLeft theirs (j + 1)) (ends-yes (setAt ours i) (setAt theirs j) l))
         ∙ keyed-append pool (meetSets pool (setAt ours i) (setAt theirs j)) _
         ∙ rw (← sets-more theirs j hj))
         p
@@ -192,7 +193,8 @@ module _ (pool : List ℕ) where
     pub shared-cut : rk (setAt theirs j .end) < rk (setAt ours i .end) → Shared ours theirs out₀ out′ n′ i (j + 1)
     shared-cut l =
         left-put v (keyedItems pool (meetSets pool (setAt ours i) (setAt theirs j))) _
-        (ap (keyedItems pool) (heads ∙ sweep-second (meetSets pool) endsFirst (setAt ours i) (setsLeft ours (i + 1)) (setAt theirs j) (setsLeft theirs (j + 1)) (ends-no (setAt ours i) (setAt theirs j) l))
+        (ap (keyedItems pool)
+        (heads ∙ sweep-second (meetSets pool) endsFirst (setAt ours i) (setsLeft ours (i + 1)) (setAt theirs j) (setsLeft theirs (j + 1)) (ends-no (setAt ours i) (setAt theirs j) l))
         ∙ keyed-append pool (meetSets pool (setAt ours i) (setAt theirs j)) _
         ∙ rw (← sets-more ours i hi))
         p
@@ -213,27 +215,27 @@ module _ (pool : List ℕ) where
 
   -- ---- all three
 
-  pub record Swept (ours theirs both₀ mine₀ yours₀ both mine yours : List ℕ) (n : ManyCounts) (i j : ℕ) (x y : RangeSet) : Type 0 where
+  pub record Swept (ours theirs sharedOut₀ oursOut₀ theirsOut₀ sharedOut oursOut theirsOut : List ℕ) (n : ManyCounts) (i j : ℕ) (x y : RangeSet) : Type 0 where
     pub our-size : length ours / itemSize ≤ mostItems
     pub their-size : length theirs / itemSize ≤ mostItems
     pub our-in : i ≤ length ours / itemSize
     pub their-in : j ≤ length theirs / itemSize
-    pub shared-few : n .«in_both» ≤ i + j
+    pub shared-few : n .shared ≤ i + j
     pub ours-few : n .ours ≤ i + j
     pub theirs-few : n .theirs ≤ i + j
-    pub shared : Shared ours theirs both₀ both (n .«in_both») i j
-    pub our-only : Only ours theirs mine₀ mine (n .ours) i j x
-    pub their-only : Only theirs ours yours₀ yours (n .theirs) j i y
+    pub shared : Shared ours theirs sharedOut₀ sharedOut (n .shared) i j
+    pub ours-only : Only ours theirs oursOut₀ oursOut (n .ours) i j x
+    pub theirs-only : Only theirs ours theirsOut₀ theirsOut (n .theirs) j i y
     pub our-ascends : Ascends 0 (setsLeft ours i)
     pub their-ascends : Ascends 0 (setsLeft theirs j)
 
   accepted-ascends : (ws : List ℕ) → AcceptedList pool ws → Ascends 0 (setsLeft ws 0)
   accepted-ascends ws a = rw (sets-all ws) (ranked.order-above pool (size pool) (le-refl (size pool)) (itemsOf ws) (a .sound) (a .in-order))
 
-  pub swept-start : (ours theirs both mine yours : List ℕ) (n : ManyCounts) {x y : RangeSet} → AcceptedList pool ours → AcceptedList pool theirs
-      → n .«in_both» ≡ 0 → n .ours ≡ 0 → n .theirs ≡ 0 → x ≡ setAt ours 0 → y ≡ setAt theirs 0
-      → Swept ours theirs both mine yours both mine yours n 0 0 x y
-  swept-start ours theirs both mine yours n a b p q r f g = record {
+  pub swept-start : (ours theirs sharedOut oursOut theirsOut : List ℕ) (n : ManyCounts) {x y : RangeSet} → AcceptedList pool ours → AcceptedList pool theirs
+      → n .shared ≡ 0 → n .ours ≡ 0 → n .theirs ≡ 0 → x ≡ setAt ours 0 → y ≡ setAt theirs 0
+      → Swept ours theirs sharedOut oursOut theirsOut sharedOut oursOut theirsOut n 0 0 x y
+  swept-start ours theirs sharedOut oursOut theirsOut n a b p q r f g = record {
     our-size = a .few;
     their-size = b .few;
     our-in = omega arith;
@@ -241,17 +243,17 @@ module _ (pool : List ℕ) where
     shared-few = omega arith;
     ours-few = omega arith;
     theirs-few = omega arith;
-    shared = rw p (shared-start ours theirs both (accepted-ascends ours a) (accepted-ascends theirs b));
-    our-only = rw (q, f) (only-start ours theirs mine (accepted-ascends ours a) (accepted-ascends theirs b));
-    their-only = rw (r, g) (only-start theirs ours yours (accepted-ascends theirs b) (accepted-ascends ours a));
+    shared = rw p (shared-start ours theirs sharedOut (accepted-ascends ours a) (accepted-ascends theirs b));
+    ours-only = rw (q, f) (only-start ours theirs oursOut (accepted-ascends ours a) (accepted-ascends theirs b));
+    theirs-only = rw (r, g) (only-start theirs ours theirsOut (accepted-ascends theirs b) (accepted-ascends ours a));
     our-ascends = accepted-ascends ours a;
     their-ascends = accepted-ascends theirs b;
   }
 
-  module _ (ours theirs both₀ mine₀ yours₀ both mine yours : List ℕ) (n : ManyCounts) (i j : ℕ) (x y : RangeSet)
-      (v : Swept ours theirs both₀ mine₀ yours₀ both mine yours n i j x y)
+  module _ {ours theirs sharedOut₀ oursOut₀ theirsOut₀ sharedOut oursOut theirsOut : List ℕ} {n : ManyCounts} {i j : ℕ} {x y : RangeSet}
+      (v : Swept ours theirs sharedOut₀ oursOut₀ theirsOut₀ sharedOut oursOut theirsOut n i j x y)
       (hi : i < length ours / itemSize) (hj : j < length theirs / itemSize)
-      (a b : RangeSet) (at-a : a ≡ setAt ours i) (at-b : b ≡ setAt theirs j) where
+      {a b : RangeSet} (at-a : a ≡ setAt ours i) (at-b : b ≡ setAt theirs j) where
     good-a : Good a
     good-a = rw at-a ((rw (sets-more ours i hi) at (v .our-ascends)) .1)
 
@@ -259,26 +261,26 @@ module _ (pool : List ℕ) where
     good-b = rw at-b ((rw (sets-more theirs j hj) at (v .their-ascends)) .1)
 
     good-x : Good x
-    good-x = (rw (rest-more ours i x hi) at (v .our-only .ascends)) .1
+    good-x = (rw (rest-more ours i x hi) at (v .ours-only .ascends)) .1
 
     good-y : Good y
-    good-y = (rw (rest-more theirs j y hj) at (v .their-only .ascends)) .1
+    good-y = (rw (rest-more theirs j y hj) at (v .theirs-only .ascends)) .1
 
     above-x : rk (a .start) ≤ rk (x .start)
-    above-x = rw at-a (v .our-only .above)
+    above-x = rw at-a (v .ours-only .above)
 
     above-y : rk (b .start) ≤ rk (y .start)
-    above-y = rw at-b (v .their-only .above)
+    above-y = rw at-b (v .theirs-only .above)
 
     end-x : x .end ≡ a .end
-    end-x = v .our-only .same-end ∙ rw at-a
+    end-x = v .ours-only .same-end ∙ rw at-a
 
     end-y : y .end ≡ b .end
-    end-y = v .their-only .same-end ∙ rw at-b
+    end-y = v .theirs-only .same-end ∙ rw at-b
 
     -- the two meet
-    pub swept-turn : (ends : Ordering) → ends ≡ compareIn pool (a .end) (b .end) → before pool a b ≡ false → before pool b a ≡ false → Turn pool ends a b x y n
-    swept-turn ends e f g = record {
+    pub swept-turn : {ends : Ordering} → ends ≡ compareIn pool (a .end) (b .end) → before pool a b ≡ false → before pool b a ≡ false → Turn pool ends a b x y n
+    swept-turn e f g = record {
       ends-are = e;
       shared = ranked.meet-met pool (size pool) (le-refl (size pool)) a b f g;
       our-left = ranked.left-known pool (size pool) (le-refl (size pool)) a b x good-a good-b good-x end-x above-x f;
@@ -288,23 +290,20 @@ module _ (pool : List ℕ) where
       theirs-few = omega (arith, v);
     }
 
-    module _ (both′ mine′ yours′ : List ℕ) (n′ : ManyCounts)
-        (p : Put both (n .«in_both») (keyedItems pool (meetSets pool a b)) both′ (n′ .«in_both»))
-        (q : Put mine (n .ours) (keyedItems pool (leftOver pool x b)) mine′ (n′ .ours))
-        (r : Put yours (n .theirs) (keyedItems pool (leftOver pool y a)) yours′ (n′ .theirs))
-        (x′ y′ : RangeSet) where
-      p′ : Put both (n .«in_both») (keyedItems pool (meetSets pool (setAt ours i) (setAt theirs j))) both′ (n′ .«in_both»)
-      p′ = rw (← at-a, ← at-b) p
+    module _ {sharedOut′ oursOut′ theirsOut′ : List ℕ} {n′ : ManyCounts}
+        (e : Emits pool a b x y n sharedOut oursOut theirsOut n′ sharedOut′ oursOut′ theirsOut′) where
+      p′ : Put sharedOut (n .shared) (keyedItems pool (meetSets pool (setAt ours i) (setAt theirs j))) sharedOut′ (n′ .shared)
+      p′ = rw (← at-a, ← at-b) (e .shared)
 
-      q′ : Put mine (n .ours) (keyedItems pool (leftOver pool x (setAt theirs j))) mine′ (n′ .ours)
-      q′ = rw (← at-b) q
+      q′ : Put oursOut (n .ours) (keyedItems pool (leftOver pool x (setAt theirs j))) oursOut′ (n′ .ours)
+      q′ = rw (← at-b) (e .our-left)
 
-      r′ : Put yours (n .theirs) (keyedItems pool (leftOver pool y (setAt ours i))) yours′ (n′ .theirs)
-      r′ = rw (← at-a) r
+      r′ : Put theirsOut (n .theirs) (keyedItems pool (leftOver pool y (setAt ours i))) theirsOut′ (n′ .theirs)
+      r′ = rw (← at-a) (e .their-left)
 
       -- ours ends first
-      pub swept-less : rk (a .end) < rk (b .end) → x′ ≡ setAt ours (i + 1) → y′ ≡ rightSet pool y a
-          → Swept ours theirs both₀ mine₀ yours₀ both′ mine′ yours′ n′ (i + 1) j x′ y′
+      pub swept-less : {x′ y′ : RangeSet} → rk (a .end) < rk (b .end) → x′ ≡ setAt ours (i + 1) → y′ ≡ rightSet pool y a
+          → Swept ours theirs sharedOut₀ oursOut₀ theirsOut₀ sharedOut′ oursOut′ theirsOut′ n′ (i + 1) j x′ y′
       swept-less l f g =
           let l′ : rk (setAt ours i .end) < rk (setAt theirs j .end) = rw (← at-a, ← at-b) l in
           record {
@@ -312,19 +311,19 @@ module _ (pool : List ℕ) where
             their-size = v .their-size;
             our-in = omega arith;
             their-in = v .their-in;
-            shared-few = omega (arith, v .shared-few, p .count, meet-few pool a b);
-            ours-few = omega (arith, v .ours-few, q .count, left-few pool x b);
-            theirs-few = omega (arith, v .theirs-few, r .count, left-few pool y a);
-            shared = shared-next ours theirs both₀ i j (v .shared) hi hj (v .our-ascends) (v .their-ascends) p′ (omega arith);
-            our-only = rw f (only-next ours theirs mine₀ i j x (v .our-only) hi hj (v .our-ascends) (v .their-ascends) q′ (omega arith));
-            their-only = rw (g, at-a) (only-cut theirs ours yours₀ j i y (v .their-only) hj hi (v .their-ascends) (v .our-ascends) r′ l′);
+            shared-few = omega (arith, v .shared-few, e .shared .count, meet-few pool a b);
+            ours-few = omega (arith, v .ours-few, e .our-left .count, left-few pool x b);
+            theirs-few = omega (arith, v .theirs-few, e .their-left .count, left-few pool y a);
+            shared = shared-next ours theirs sharedOut₀ i j (v .shared) hi hj (v .our-ascends) (v .their-ascends) p′ (omega arith);
+            ours-only = rw f (only-next (v .ours-only) hi hj (v .our-ascends) (v .their-ascends) q′ (omega arith));
+            theirs-only = rw (g, at-a) (only-cut (v .theirs-only) hj hi (v .their-ascends) (v .our-ascends) r′ l′);
             our-ascends = next-ascends-0 ours i hi (v .our-ascends);
             their-ascends = v .their-ascends;
           }
 
       -- theirs ends first
-      pub swept-greater : rk (b .end) < rk (a .end) → x′ ≡ rightSet pool x b → y′ ≡ setAt theirs (j + 1)
-          → Swept ours theirs both₀ mine₀ yours₀ both′ mine′ yours′ n′ i (j + 1) x′ y′
+      pub swept-greater : {x′ y′ : RangeSet} → rk (b .end) < rk (a .end) → x′ ≡ rightSet pool x b → y′ ≡ setAt theirs (j + 1)
+          → Swept ours theirs sharedOut₀ oursOut₀ theirsOut₀ sharedOut′ oursOut′ theirsOut′ n′ i (j + 1) x′ y′
       swept-greater l f g =
           let l′ : rk (setAt theirs j .end) < rk (setAt ours i .end) = rw (← at-a, ← at-b) l in
           record {
@@ -332,56 +331,58 @@ module _ (pool : List ℕ) where
             their-size = v .their-size;
             our-in = v .our-in;
             their-in = omega arith;
-            shared-few = omega (arith, v .shared-few, p .count, meet-few pool a b);
-            ours-few = omega (arith, v .ours-few, q .count, left-few pool x b);
-            theirs-few = omega (arith, v .theirs-few, r .count, left-few pool y a);
-            shared = shared-cut ours theirs both₀ i j (v .shared) hi hj (v .our-ascends) (v .their-ascends) p′ l′;
-            our-only = rw (f, at-b) (only-cut ours theirs mine₀ i j x (v .our-only) hi hj (v .our-ascends) (v .their-ascends) q′ l′);
-            their-only = rw g (only-next theirs ours yours₀ j i y (v .their-only) hj hi (v .their-ascends) (v .our-ascends) r′ (omega arith));
+            shared-few = omega (arith, v .shared-few, e .shared .count, meet-few pool a b);
+            ours-few = omega (arith, v .ours-few, e .our-left .count, left-few pool x b);
+            theirs-few = omega (arith, v .theirs-few, e .their-left .count, left-few pool y a);
+            shared = shared-cut ours theirs sharedOut₀ i j (v .shared) hi hj (v .our-ascends) (v .their-ascends) p′ l′;
+            ours-only = rw (f, at-b) (only-cut (v .ours-only) hi hj (v .our-ascends) (v .their-ascends) q′ l′);
+            theirs-only = rw g (only-next (v .theirs-only) hj hi (v .their-ascends) (v .our-ascends) r′ (omega arith));
             our-ascends = v .our-ascends;
             their-ascends = next-ascends-0 theirs j hj (v .their-ascends);
           }
 
       -- both end together
-      pub swept-equal : rk (a .end) ≡ rk (b .end) → x′ ≡ setAt ours (i + 1) → y′ ≡ setAt theirs (j + 1)
-          → Swept ours theirs both₀ mine₀ yours₀ both′ mine′ yours′ n′ (i + 1) (j + 1) x′ y′
-      swept-equal e f g =
-          let e′ : rk (setAt ours i .end) ≡ rk (setAt theirs j .end) = rw (← at-a, ← at-b) e in
+      pub swept-equal : {x′ y′ : RangeSet} → rk (a .end) ≡ rk (b .end) → x′ ≡ setAt ours (i + 1) → y′ ≡ setAt theirs (j + 1)
+          → Swept ours theirs sharedOut₀ oursOut₀ theirsOut₀ sharedOut′ oursOut′ theirsOut′ n′ (i + 1) (j + 1) x′ y′
+      swept-equal t f g =
+          let t′ : rk (setAt ours i .end) ≡ rk (setAt theirs j .end) = rw (← at-a, ← at-b) t in
           record {
             our-size = v .our-size;
             their-size = v .their-size;
             our-in = omega arith;
             their-in = omega arith;
-            shared-few = omega (arith, v .shared-few, p .count, meet-few pool a b);
-            ours-few = omega (arith, v .ours-few, q .count, left-few pool x b);
-            theirs-few = omega (arith, v .theirs-few, r .count, left-few pool y a);
-            shared = shared-both ours theirs both₀ i j (v .shared) hi hj (v .our-ascends) (v .their-ascends) p′ e′;
-            our-only = rw f (only-both ours theirs mine₀ i j x (v .our-only) hi hj (v .our-ascends) (v .their-ascends) q′ e′);
-            their-only = rw g (only-both theirs ours yours₀ j i y (v .their-only) hj hi (v .their-ascends) (v .our-ascends) r′ (sym e′));
+            shared-few = omega (arith, v .shared-few, e .shared .count, meet-few pool a b);
+            ours-few = omega (arith, v .ours-few, e .our-left .count, left-few pool x b);
+            theirs-few = omega (arith, v .theirs-few, e .their-left .count, left-few pool y a);
+            shared = shared-both ours theirs sharedOut₀ i j (v .shared) hi hj (v .our-ascends) (v .their-ascends) p′ t′;
+            ours-only = rw f (only-both (v .ours-only) hi hj (v .our-ascends) (v .their-ascends) q′ t′);
+            theirs-only = rw g (only-both (v .theirs-only) hj hi (v .their-ascends) (v .our-ascends) r′ (sym t′));
             our-ascends = next-ascends-0 ours i hi (v .our-ascends);
             their-ascends = next-ascends-0 theirs j hj (v .their-ascends);
           }
 
     -- ours stands before theirs: what is left of it is ours alone
-    pub swept-before : (mine′ : List ℕ) (n′ : ManyCounts) (x′ : RangeSet) → before pool a b ≡ true → n′ .«in_both» ≡ n .«in_both» → n′ .theirs ≡ n .theirs
-        → Put mine (n .ours) (asItems (pieceItem pool x)) mine′ (n′ .ours) → x′ ≡ setAt ours (i + 1)
-        → Swept ours theirs both₀ mine₀ yours₀ both mine′ yours n′ (i + 1) j x′ y
-    swept-before mine′ n′ x′ f p q r g =
-        let k = ranked.apart pool (size pool) (le-refl (size pool)) a b x y good-a good-b good-x good-y end-x above-y f in
-        swept-less both mine′ yours n′
-        (rw (p, k .shared) (put-none-keyed pool both (n .«in_both»)))
-        (rw (k .whole) (rw (← keyed-one pool x) at r))
-        (rw (q, k .none) (put-none-keyed pool yours (n .theirs)))
-        x′ y (k .sooner) g (sym (k .kept))
+    pub swept-before : {oursOut′ : List ℕ} {n′ : ManyCounts} {x′ : RangeSet} → before pool a b ≡ true → n′ .shared ≡ n .shared → n′ .theirs ≡ n .theirs
+        → Put oursOut (n .ours) (asItems (pieceItem pool x)) oursOut′ (n′ .ours) → x′ ≡ setAt ours (i + 1)
+        → Swept ours theirs sharedOut₀ oursOut₀ theirsOut₀ sharedOut oursOut′ theirsOut n′ (i + 1) j x′ y
+    swept-before {oursOut′} {n′} f p q r g =
+        let k = ranked.ahead pool (size pool) (le-refl (size pool)) a b x y good-a good-b good-x good-y end-x above-y f in
+        let emits : Emits pool a b x y n sharedOut oursOut theirsOut n′ sharedOut oursOut′ theirsOut = record {
+          shared = rw (p, k .shared) (put-none-keyed pool sharedOut (n .shared));
+          our-left = rw (k .whole) (rw (← keyed-one pool x) at r);
+          their-left = rw (q, k .none) (put-none-keyed pool theirsOut (n .theirs));
+        } in
+        swept-less emits (k .sooner) g (sym (k .kept))
 
     -- and theirs before ours
-    pub swept-after : (yours′ : List ℕ) (n′ : ManyCounts) (y′ : RangeSet) → before pool b a ≡ true → n′ .«in_both» ≡ n .«in_both» → n′ .ours ≡ n .ours
-        → Put yours (n .theirs) (asItems (pieceItem pool y)) yours′ (n′ .theirs) → y′ ≡ setAt theirs (j + 1)
-        → Swept ours theirs both₀ mine₀ yours₀ both mine yours′ n′ i (j + 1) x y′
-    swept-after yours′ n′ y′ f p q r g =
-        let k = ranked.apart pool (size pool) (le-refl (size pool)) b a y x good-b good-a good-y good-x end-y above-x f in
-        swept-greater both mine yours′ n′
-        (rw (p, k .shared-past) (put-none-keyed pool both (n .«in_both»)))
-        (rw (q, k .none) (put-none-keyed pool mine (n .ours)))
-        (rw (k .whole) (rw (← keyed-one pool y) at r))
-        x y′ (k .sooner) (sym (k .kept)) g
+    pub swept-after : {theirsOut′ : List ℕ} {n′ : ManyCounts} {y′ : RangeSet} → before pool b a ≡ true → n′ .shared ≡ n .shared → n′ .ours ≡ n .ours
+        → Put theirsOut (n .theirs) (asItems (pieceItem pool y)) theirsOut′ (n′ .theirs) → y′ ≡ setAt theirs (j + 1)
+        → Swept ours theirs sharedOut₀ oursOut₀ theirsOut₀ sharedOut oursOut theirsOut′ n′ i (j + 1) x y′
+    swept-after {theirsOut′} {n′} f p q r g =
+        let k = ranked.ahead pool (size pool) (le-refl (size pool)) b a y x good-b good-a good-y good-x end-y above-x f in
+        let emits : Emits pool a b x y n sharedOut oursOut theirsOut n′ sharedOut oursOut theirsOut′ = record {
+          shared = rw (p, k .shared-past) (put-none-keyed pool sharedOut (n .shared));
+          our-left = rw (q, k .none) (put-none-keyed pool oursOut (n .ours));
+          their-left = rw (k .whole) (rw (← keyed-one pool y) at r);
+        } in
+        swept-greater emits (k .sooner) (sym (k .kept)) g

@@ -1,17 +1,18 @@
 -- What the one pass over both lists goes by. No promise of a public call cites this. It serves 01 m4.1, m4.2, m4.3. Assumes nothing.
-use Prim.Native.Nat.{ℕ, _+_, _-_, _/_, _≤_}
+use Prim.Native.Nat.{ℕ, _+_, _-_, _*_, _/_, _≤_}
 use mathlib.Core.Path.{_≡_}
 use mathlib.Core.List.{List, [], _∷_, map}
 use mathlib.Core.Bool.{true, cond, not}
-use Rattle.query_item.specs.declared.QueryItem.{QueryItem}
 use Rattle.query_item.specs.declared.RangeSet.{RangeSet}
+use Rattle.item_check.specs.Checks.{Answer, accepted, mostItems, listVerdict}
+use Rattle.item_lists.specs.Written.{Put}
 use lib.ListN.{length}
 use Rattle.query_item.specs.Items.{itemSize, itemsFrom}
 use Rattle.query_item.specs.Boundaries.{compareIn, invertOf, fromTo, rangeOf}
 use Rattle.key_order.specs.declared.Ordering.{Ordering}
 use Rattle.key_order.specs.Order.{isLess, isAtMost}
-use Rattle.item_lists.specs.Written.{plain, putAll}
 use Rattle.intersect.specs.Pair.{before, overlap, meetSets, leftPart, leftOver}
+use Rattle.intersect_many.specs.Lists.{keyedItems, sharedItems, onlyItems, listsRoomAnswer, GivesLists}
 use Rattle.intersect_many.specs.declared.ManyCounts.{ManyCounts}
 use Rattle.intersect_many.specs.declared.Stand.{Stand}
 use Rattle.intersect_many.specs.declared.Stand.the-variants.{Before, After, Meets}
@@ -31,16 +32,19 @@ withHead s (a ∷ A) = s ∷ A
 abbrev pub restLeft : List ℕ → ℕ → RangeSet → List RangeSet
 restLeft ws i s = withHead s (setsLeft ws i)
 
--- items written from a count on: the next count, and the words
-pub record Put (out : List ℕ) (n : ℕ) (Q : List QueryItem) (out′ : List ℕ) (n′ : ℕ) : Type 0 where
-  pub count : n′ ≡ n + length Q
-  pub words : out′ ≡ putAll out n (plain Q)
+-- the pass goes over two accepted lists
+abbrev pub BothAccepted : List ℕ → List ℕ → List ℕ → Type 0
+BothAccepted pool ours theirs = (listVerdict pool ours 0 ≡ accepted) × (listVerdict pool theirs 1 ≡ accepted)
+
+-- each turn moves an index, and makes one item at most for each list: so many pieces two lists make at most
+abbrev pub mostPieces : ℕ
+mostPieces = 2 * mostItems
 
 -- no list has more items than both lists together
 pub record Few (ours theirs : List ℕ) (n : ManyCounts) : Type 0 where
-  pub shared : n .«in_both» ≤ length ours / itemSize + length theirs / itemSize
-  pub our-only : n .ours ≤ length ours / itemSize + length theirs / itemSize
-  pub their-only : n .theirs ≤ length ours / itemSize + length theirs / itemSize
+  pub shared : n .shared ≤ length ours / itemSize + length theirs / itemSize
+  pub ours-only : n .ours ≤ length ours / itemSize + length theirs / itemSize
+  pub theirs-only : n .theirs ≤ length ours / itemSize + length theirs / itemSize
 
 -- how two ranges stand
 abbrev pub standOf : List ℕ → RangeSet → RangeSet → Stand
@@ -53,6 +57,25 @@ pub record Turn (pool : List ℕ) (ends : Ordering) (a b x y : RangeSet) (n : Ma
   pub shared : meetSets pool a b ≡ overlap pool a b ∷ []
   pub our-left : leftOver pool x b ≡ cond (isLess (compareIn pool (a .start) (b .start))) (leftPart pool x b) []
   pub their-left : leftOver pool y a ≡ cond (not (isAtMost (compareIn pool (a .start) (b .start)))) (leftPart pool y a) []
-  pub shared-few : n .«in_both» ≤ 4096
-  pub ours-few : n .ours ≤ 4096
-  pub theirs-few : n .theirs ≤ 4096
+  pub shared-few : n .shared ≤ mostPieces
+  pub ours-few : n .ours ≤ mostPieces
+  pub theirs-few : n .theirs ≤ mostPieces
+
+-- what is given where both lists are accepted: the room is left to be asked for
+abbrev pub RoomGives : (pool ours theirs sharedOut oursOut theirsOut : List ℕ) (got : Answer ManyCounts) (sharedOut′ oursOut′ theirsOut′ : List ℕ) → Type 0
+RoomGives pool ours theirs sharedOut oursOut theirsOut =
+    GivesLists (listsRoomAnswer pool ours theirs sharedOut oursOut theirsOut) pool ours theirs sharedOut oursOut theirsOut
+
+-- what a turn writes where a and b meet
+pub record Emits (pool : List ℕ) (a b x y : RangeSet) (n : ManyCounts) (sharedOut oursOut theirsOut : List ℕ)
+    (n′ : ManyCounts) (sharedOut′ oursOut′ theirsOut′ : List ℕ) : Type 0 where
+  pub shared : Put sharedOut (n .shared) (keyedItems pool (meetSets pool a b)) sharedOut′ (n′ .shared)
+  pub our-left : Put oursOut (n .ours) (keyedItems pool (leftOver pool x b)) oursOut′ (n′ .ours)
+  pub their-left : Put theirsOut (n .theirs) (keyedItems pool (leftOver pool y a)) theirsOut′ (n′ .theirs)
+
+-- what the pass writes, and counts
+pub record Sweeps (pool ours theirs sharedOut oursOut theirsOut : List ℕ) (n : ManyCounts) (sharedOut′ oursOut′ theirsOut′ : List ℕ) : Type 0 where
+  pub shared : Put sharedOut 0 (sharedItems pool ours theirs) sharedOut′ (n .shared)
+  pub ours-only : Put oursOut 0 (onlyItems pool ours theirs) oursOut′ (n .ours)
+  pub theirs-only : Put theirsOut 0 (onlyItems pool theirs ours) theirsOut′ (n .theirs)
+  pub few : Few ours theirs n

@@ -1,5 +1,6 @@
 // Module 4 of document 01: the three lists of two lists of items, without what holds no key (02 §2.1). The crate `intersect` has the pair.
-// Definitions: specs/Lists.antt (specs/Sweep.antt is what the pass goes by). Laws: proofs/Demands.antt, which speak by specs/Demand.antt.
+// Definitions: specs/Lists.antt (specs/Sweep.antt is what the pass goes by). Laws: proofs/Demands.antt, which speak by specs/Demand.antt
+// and specs/Lists.antt of `item_lists`.
 //
 // One pass over both lists with two indexes. Our item and theirs, at the indexes, and what is left of them are kept beside these: an item is read
 // when its index moves.
@@ -9,16 +10,14 @@ ghost use mathlib.Core.List.{[]};
 ghost use Prim.Native.Nat.{_+_, _/_, _≤_};
 ghost use lib.ListN.{length};
 ghost use Rattle.query_item.specs.Items.{itemSize};
-ghost use Rattle.item_check.specs.Checks.{verdictOf, accepted, listVerdict};
+ghost use Rattle.item_check.specs.Checks.{verdictOf};
 ghost use Rattle.key_order.specs.Order.{isLess};
 ghost use Rattle.query_item.specs.Boundaries.{compareIn, invertOf, fromTo};
 ghost use Rattle.keyless.specs.Keyless.{pieceItem};
-ghost use Rattle.item_lists.specs.Written.{asItems, plain, written};
-ghost use Rattle.intersect.specs.Pair.{before, meetSets, leftPart, leftOver};
-ghost use Rattle.intersect_many.specs.Lists.{keyedItems, sharedItems, onlyItems, manyOf, bothVerdict, listsVerdict, lacksRoom, countsOf, roomAnswer, manyAnswer};
-ghost use Rattle.intersect_many.specs.Sweep.{rightSet, restLeft, standOf, Put, Few, Turn};
-use boundary::is_at_most;
-use boundary::is_less;
+ghost use Rattle.item_lists.specs.Written.{asItems, Put};
+ghost use Rattle.intersect.specs.Pair.{before, leftPart};
+ghost use Rattle.intersect_many.specs.Lists.{keyedItems, manyOf, bothVerdict, listsVerdict, lacksRoom, countsOf, IntersectMany};
+ghost use Rattle.intersect_many.specs.Sweep.{rightSet, restLeft, BothAccepted, mostPieces, standOf, Turn, RoomGives, Emits, Sweeps};
 use boundary::rung_of;
 use intersect::pair::is_before;
 use intersect::pair::overlap_by;
@@ -26,11 +25,14 @@ use item_check::Checked;
 use item_check::Refusal;
 use item_check::check_pool;
 use item_check::check_words;
+use item_check::refusal_of;
 use item_check::set_at;
 use item_lists::passes_room;
 use item_lists::put_item;
 use item_words::ITEM_SIZE;
 use key_order::Ordering;
+use key_order::is_at_most;
+use key_order::is_less;
 use keyless::piece_item;
 use query_item::RangeSet;
 use query_item::RangeSetItem;
@@ -42,7 +44,7 @@ use query_item::pooled::kind_of;
 
 // How many items the three lists have.
 pub struct ManyCounts {
-    pub in_both: usize,
+    pub shared: usize,
     pub ours: usize,
     pub theirs: usize,
 }
@@ -67,24 +69,23 @@ pub fn intersect_many_ordered(
     pool: &[u8],
     ours: &[u32],
     theirs: &[u32],
-    both: &mut [u32],
-    mine: &mut [u32],
-    yours: &mut [u32],
+    shared_out: &mut [u32],
+    ours_out: &mut [u32],
+    theirs_out: &mut [u32],
 ) -> ManyAnswer
-    ensures { λ r. ⌜ manyOf r ≡ manyAnswer (now (pool .entry)) (now (ours .entry)) (now (theirs .entry)) (now (both .entry)) (now (mine .entry)) (now (yours .entry)) ⌝ }
-    ensures { λ _. ⌜ now (both .exit) ≡ written (manyAnswer (now (pool .entry)) (now (ours .entry)) (now (theirs .entry)) (now (both .entry)) (now (mine .entry)) (now (yours .entry))) (plain (sharedItems (now (pool .entry)) (now (ours .entry)) (now (theirs .entry)))) (now (both .entry)) ⌝ }
-    ensures { λ _. ⌜ now (mine .exit) ≡ written (manyAnswer (now (pool .entry)) (now (ours .entry)) (now (theirs .entry)) (now (both .entry)) (now (mine .entry)) (now (yours .entry))) (plain (onlyItems (now (pool .entry)) (now (ours .entry)) (now (theirs .entry)))) (now (mine .entry)) ⌝ }
-    ensures { λ _. ⌜ now (yours .exit) ≡ written (manyAnswer (now (pool .entry)) (now (ours .entry)) (now (theirs .entry)) (now (both .entry)) (now (mine .entry)) (now (yours .entry))) (plain (onlyItems (now (pool .entry)) (now (theirs .entry)) (now (ours .entry)))) (now (yours .entry)) ⌝ }
+    ensures { λ r. ⌜ IntersectMany (now (pool .entry)) (now (ours .entry)) (now (theirs .entry))
+        (now («shared_out» .entry)) (now («ours_out» .entry)) (now («theirs_out» .entry))
+        (manyOf r) (now («shared_out» .exit)) (now («ours_out» .exit)) (now («theirs_out» .exit)) ⌝ }
 {
     match check_lists(pool, ours, theirs) {
         Checked::Refused(r) => ManyAnswer::Refused(r),
-        Checked::Accepted => write_lists(pool, ours, theirs, both, mine, yours),
+        Checked::Accepted => write_lists(pool, ours, theirs, shared_out, ours_out, theirs_out),
     }
 }
 
 // Writes the item of a range, if it holds a key, at index n, and says where the next one goes.
 fn put_set(pool: &[u8], out: &mut [u32], n: usize, set: RangeSet) -> usize
-    requires { ⌜ n ≤ 4096 ⌝ }
+    requires { ⌜ n ≤ mostPieces ⌝ }
     ensures { λ r. ⌜ Put (now (out .entry)) n (asItems (pieceItem (now (pool .entry)) set)) (now (out .exit)) r ⌝ }
 {
     n + put_item(out, n, piece_item(pool, set))
@@ -158,7 +159,7 @@ fn put_left(
     out: &mut [u32],
     n: usize,
 ) -> usize
-    requires { ⌜ (n ≤ 4096) × (may ≡ true → isLess (compareIn (now pool) (a .start) (b .start)) ≡ true) ⌝ }
+    requires { ⌜ (n ≤ mostPieces) × (may ≡ true → isLess (compareIn (now pool) (a .start) (b .start)) ≡ true) ⌝ }
     ensures { λ r. ⌜ Put (now (out .entry)) n (keyedItems (now (pool .entry)) (cond may (leftPart (now (pool .entry)) x b) [])) (now (out .exit)) r ⌝ }
 {
     if !may {
@@ -178,7 +179,7 @@ fn put_left(
 
 // What of x stands below the start of b.
 fn put_below(pool: &[u8], x: RangeSet, b: RangeSet, out: &mut [u32], n: usize) -> usize
-    requires { ⌜ n ≤ 4096 ⌝ }
+    requires { ⌜ n ≤ mostPieces ⌝ }
     ensures { λ r. ⌜ Put (now (out .entry)) n (asItems (pieceItem (now (pool .entry)) (fromTo (x .start) (invertOf (b .start) false)))) (now (out .exit)) r ⌝ }
 {
     let start = x.start;
@@ -195,29 +196,28 @@ fn emit(
     b: RangeSet,
     x: RangeSet,
     y: RangeSet,
-    both: &mut [u32],
-    ours: &mut [u32],
-    theirs: &mut [u32],
+    shared_out: &mut [u32],
+    ours_out: &mut [u32],
+    theirs_out: &mut [u32],
     n: ManyCounts,
 ) -> ManyCounts
     requires { ⌜ Turn (now pool) ends a b x y n ⌝ }
-    ensures { λ r. ⌜ Put (now (both .entry)) (n .«in_both») (keyedItems (now (pool .entry)) (meetSets (now (pool .entry)) a b)) (now (both .exit)) (r .«in_both») ⌝ }
-    ensures { λ r. ⌜ Put (now (ours .entry)) (n .ours) (keyedItems (now (pool .entry)) (leftOver (now (pool .entry)) x b)) (now (ours .exit)) (r .ours) ⌝ }
-    ensures { λ r. ⌜ Put (now (theirs .entry)) (n .theirs) (keyedItems (now (pool .entry)) (leftOver (now (pool .entry)) y a)) (now (theirs .exit)) (r .theirs) ⌝ }
+    ensures { λ r. ⌜ Emits (now (pool .entry)) a b x y n (now («shared_out» .entry)) (now («ours_out» .entry)) (now («theirs_out» .entry))
+        r (now («shared_out» .exit)) (now («ours_out» .exit)) (now («theirs_out» .exit)) ⌝ }
 {
     let our_start = a.start;
     let their_start = b.start;
     let starts = compare_in(pool, our_start, their_start);
     ManyCounts {
-        in_both: put_set(pool, both, n.in_both, overlap_by(starts, ends, a, b)),
-        ours: put_left(pool, is_less(starts), a, x, b, ours, n.ours),
-        theirs: put_left(pool, !is_at_most(starts), b, y, a, theirs, n.theirs),
+        shared: put_set(pool, shared_out, n.shared, overlap_by(starts, ends, a, b)),
+        ours: put_left(pool, is_less(starts), a, x, b, ours_out, n.ours),
+        theirs: put_left(pool, !is_at_most(starts), b, y, a, theirs_out, n.theirs),
     }
 }
 
 // What is left of a list from an index on, of whose item there x is left, once the other list has ended.
 fn put_rest(pool: &[u8], words: &[u32], i: usize, x: RangeSet, out: &mut [u32], n: usize) -> usize
-    requires { ⌜ n + length (now words) / itemSize ≤ 4096 + i ⌝ }
+    requires { ⌜ n + length (now words) / itemSize ≤ mostPieces + i ⌝ }
     ensures { λ r. ⌜ Put (now (out .entry)) n (keyedItems (now (pool .entry)) (restLeft (now (words .entry)) i x)) (now (out .exit)) r ⌝ }
 {
     let count = words.len() / ITEM_SIZE;
@@ -234,20 +234,20 @@ fn put_rest(pool: &[u8], words: &[u32], i: usize, x: RangeSet, out: &mut [u32], 
 }
 
 fn with_ours(n: ManyCounts, ours: usize) -> ManyCounts
-    ensures { λ r. ⌜ (r .«in_both» ≡ n .«in_both») × (r .ours ≡ ours) × (r .theirs ≡ n .theirs) ⌝ }
+    ensures { λ r. ⌜ (r .shared ≡ n .shared) × (r .ours ≡ ours) × (r .theirs ≡ n .theirs) ⌝ }
 {
     ManyCounts {
-        in_both: n.in_both,
+        shared: n.shared,
         ours,
         theirs: n.theirs,
     }
 }
 
 fn with_theirs(n: ManyCounts, theirs: usize) -> ManyCounts
-    ensures { λ r. ⌜ (r .«in_both» ≡ n .«in_both») × (r .ours ≡ n .ours) × (r .theirs ≡ theirs) ⌝ }
+    ensures { λ r. ⌜ (r .shared ≡ n .shared) × (r .ours ≡ n .ours) × (r .theirs ≡ theirs) ⌝ }
 {
     ManyCounts {
-        in_both: n.in_both,
+        shared: n.shared,
         ours: n.ours,
         theirs,
     }
@@ -258,20 +258,19 @@ fn sweep(
     pool: &[u8],
     ours: &[u32],
     theirs: &[u32],
-    both: &mut [u32],
-    mine: &mut [u32],
-    yours: &mut [u32],
+    shared_out: &mut [u32],
+    ours_out: &mut [u32],
+    theirs_out: &mut [u32],
 ) -> ManyCounts
-    requires { ⌜ (listVerdict (now pool) (now ours) 0 ≡ accepted) × (listVerdict (now pool) (now theirs) 1 ≡ accepted) ⌝ }
-    ensures { λ r. ⌜ Put (now (both .entry)) 0 (sharedItems (now (pool .entry)) (now (ours .entry)) (now (theirs .entry))) (now (both .exit)) (r .«in_both») ⌝ }
-    ensures { λ r. ⌜ Put (now (mine .entry)) 0 (onlyItems (now (pool .entry)) (now (ours .entry)) (now (theirs .entry))) (now (mine .exit)) (r .ours) ⌝ }
-    ensures { λ r. ⌜ Put (now (yours .entry)) 0 (onlyItems (now (pool .entry)) (now (theirs .entry)) (now (ours .entry))) (now (yours .exit)) (r .theirs) ⌝ }
-    ensures { λ r. ⌜ Few (now (ours .entry)) (now (theirs .entry)) r ⌝ }
+    requires { ⌜ BothAccepted (now pool) (now ours) (now theirs) ⌝ }
+    ensures { λ r. ⌜ Sweeps (now (pool .entry)) (now (ours .entry)) (now (theirs .entry))
+        (now («shared_out» .entry)) (now («ours_out» .entry)) (now («theirs_out» .entry))
+        r (now («shared_out» .exit)) (now («ours_out» .exit)) (now («theirs_out» .exit)) ⌝ }
 {
     let our_count = ours.len() / ITEM_SIZE;
     let their_count = theirs.len() / ITEM_SIZE;
     let mut n = ManyCounts {
-        in_both: 0,
+        shared: 0,
         ours: 0,
         theirs: 0,
     };
@@ -284,19 +283,19 @@ fn sweep(
     while (i < our_count) & (j < their_count) {
         match how_they_stand(pool, a, b) {
             Stand::Before => {
-                n = with_ours(n, put_set(pool, mine, n.ours, x));
+                n = with_ours(n, put_set(pool, ours_out, n.ours, x));
                 i += 1;
                 a = set_at(ours, i);
                 x = a;
             }
             Stand::After => {
-                n = with_theirs(n, put_set(pool, yours, n.theirs, y));
+                n = with_theirs(n, put_set(pool, theirs_out, n.theirs, y));
                 j += 1;
                 b = set_at(theirs, j);
                 y = b;
             }
             Stand::Meets(ends) => {
-                n = emit(pool, ends, a, b, x, y, both, mine, yours, n);
+                n = emit(pool, ends, a, b, x, y, shared_out, ours_out, theirs_out, n);
                 match ends {
                     Ordering::Less => {
                         y = right_set(pool, b, y, a);
@@ -323,21 +322,28 @@ fn sweep(
         }
     }
     ManyCounts {
-        in_both: n.in_both,
-        ours: put_rest(pool, ours, i, x, mine, n.ours),
-        theirs: put_rest(pool, theirs, j, y, yours, n.theirs),
+        shared: n.shared,
+        ours: put_rest(pool, ours, i, x, ours_out, n.ours),
+        theirs: put_rest(pool, theirs, j, y, theirs_out, n.theirs),
     }
 }
 
 // The counts of the three lists: a pass that has no room to write.
 fn count(pool: &[u8], ours: &[u32], theirs: &[u32]) -> ManyCounts
-    requires { ⌜ (listVerdict (now pool) (now ours) 0 ≡ accepted) × (listVerdict (now pool) (now theirs) 1 ≡ accepted) ⌝ }
+    requires { ⌜ BothAccepted (now pool) (now ours) (now theirs) ⌝ }
     ensures { λ r. ⌜ r ≡ countsOf (now (pool .entry)) (now (ours .entry)) (now (theirs .entry)) ⌝ }
 {
-    let mut both = [0u32; 1];
-    let mut mine = [0u32; 1];
-    let mut yours = [0u32; 1];
-    sweep(pool, ours, theirs, &mut both, &mut mine, &mut yours)
+    let mut shared_out = [0u32; 1];
+    let mut ours_out = [0u32; 1];
+    let mut theirs_out = [0u32; 1];
+    sweep(
+        pool,
+        ours,
+        theirs,
+        &mut shared_out,
+        &mut ours_out,
+        &mut theirs_out,
+    )
 }
 
 // The pool, then ours entirely, then theirs entirely.
@@ -360,10 +366,12 @@ fn check_both(pool: &[u8], ours: &[u32], theirs: &[u32]) -> Checked
 }
 
 // Whether one of the three lists has less room than a count asks for.
-fn lack_room(n: ManyCounts, both: &[u32], mine: &[u32], yours: &[u32]) -> bool
-    ensures { λ r. ⌜ r ≡ lacksRoom n (now (both .entry)) (now (mine .entry)) (now (yours .entry)) ⌝ }
+fn lack_room(n: ManyCounts, shared_out: &[u32], ours_out: &[u32], theirs_out: &[u32]) -> bool
+    ensures { λ r. ⌜ r ≡ lacksRoom n (now («shared_out» .entry)) (now («ours_out» .entry)) (now («theirs_out» .entry)) ⌝ }
 {
-    passes_room(n.in_both, both) | passes_room(n.ours, mine) | passes_room(n.theirs, yours)
+    passes_room(n.shared, shared_out)
+        | passes_room(n.ours, ours_out)
+        | passes_room(n.theirs, theirs_out)
 }
 
 // The lists at once where there is room for the most that they can have; else the room that they need, known before anything is written, and
@@ -372,33 +380,28 @@ fn write_lists(
     pool: &[u8],
     ours: &[u32],
     theirs: &[u32],
-    both: &mut [u32],
-    mine: &mut [u32],
-    yours: &mut [u32],
+    shared_out: &mut [u32],
+    ours_out: &mut [u32],
+    theirs_out: &mut [u32],
 ) -> ManyAnswer
-    requires { ⌜ (listVerdict (now pool) (now ours) 0 ≡ accepted) × (listVerdict (now pool) (now theirs) 1 ≡ accepted) ⌝ }
-    ensures { λ r. ⌜ manyOf r ≡ roomAnswer (now (pool .entry)) (now (ours .entry)) (now (theirs .entry)) (now (both .entry)) (now (mine .entry)) (now (yours .entry)) ⌝ }
-    ensures { λ _. ⌜ now (both .exit) ≡ written (roomAnswer (now (pool .entry)) (now (ours .entry)) (now (theirs .entry)) (now (both .entry)) (now (mine .entry)) (now (yours .entry))) (plain (sharedItems (now (pool .entry)) (now (ours .entry)) (now (theirs .entry)))) (now (both .entry)) ⌝ }
-    ensures { λ _. ⌜ now (mine .exit) ≡ written (roomAnswer (now (pool .entry)) (now (ours .entry)) (now (theirs .entry)) (now (both .entry)) (now (mine .entry)) (now (yours .entry))) (plain (onlyItems (now (pool .entry)) (now (ours .entry)) (now (theirs .entry)))) (now (mine .entry)) ⌝ }
-    ensures { λ _. ⌜ now (yours .exit) ≡ written (roomAnswer (now (pool .entry)) (now (ours .entry)) (now (theirs .entry)) (now (both .entry)) (now (mine .entry)) (now (yours .entry))) (plain (onlyItems (now (pool .entry)) (now (theirs .entry)) (now (ours .entry)))) (now (yours .entry)) ⌝ }
+    requires { ⌜ BothAccepted (now pool) (now ours) (now theirs) ⌝ }
+    ensures { λ r. ⌜ RoomGives (now (pool .entry)) (now (ours .entry)) (now (theirs .entry))
+        (now («shared_out» .entry)) (now («ours_out» .entry)) (now («theirs_out» .entry))
+        (manyOf r) (now («shared_out» .exit)) (now («ours_out» .exit)) (now («theirs_out» .exit)) ⌝ }
 {
     let all = ours.len() / ITEM_SIZE + theirs.len() / ITEM_SIZE;
     let most = ManyCounts {
-        in_both: all,
+        shared: all,
         ours: all,
         theirs: all,
     };
-    if !lack_room(most, both, mine, yours) {
-        return ManyAnswer::Counts(sweep(pool, ours, theirs, both, mine, yours));
+    if !lack_room(most, shared_out, ours_out, theirs_out) {
+        return ManyAnswer::Counts(sweep(pool, ours, theirs, shared_out, ours_out, theirs_out));
     }
     let n = count(pool, ours, theirs);
-    if lack_room(n, both, mine, yours) {
-        return ManyAnswer::Refused(Refusal {
-            number: 6,
-            side: 0,
-            index: 0,
-        });
+    if lack_room(n, shared_out, ours_out, theirs_out) {
+        return ManyAnswer::Refused(refusal_of(6, 0, 0));
     }
-    sweep(pool, ours, theirs, both, mine, yours);
+    sweep(pool, ours, theirs, shared_out, ours_out, theirs_out);
     ManyAnswer::Counts(n)
 }

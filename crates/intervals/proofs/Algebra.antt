@@ -1,5 +1,5 @@
 -- The steps to associativity and commutativity of `shared`, and to taking away in either order. Assumes nothing.
-use Prim.Native.Nat.{ℕ, _<_, min, max}
+use Prim.Native.Nat.{ℕ, _≤_, _<_, min, max}
 use mathlib.Core.Path.{_≡_, refl}
 use mathlib.Core.List.{List, [], _∷_, _++_, append-assoc, append-nil}
 use mathlib.Core.Logic.{_⊎_, inl, inr}
@@ -7,11 +7,10 @@ use native.Mathlib.Decide.{decLt, decLe}
 use native.Mathlib.Nat.{max-comm, min-comm}
 use native.Mathlib.Omega.{arith}
 use Rattle.intervals.specs.Lists.{meetsOf, sharedOf, cutsOf, withoutOf}
-use Rattle.intervals.specs.Intervals.{Interval, Above, piece, meet, shared, cut, without}
+use Rattle.intervals.specs.Intervals.{Interval, piece, cut, without}
+use Rattle.intervals.proofs.Model.{Above, meet, shared}
 use Rattle.intervals.proofs.Lists.{meets-append, shared-append, cuts-append}
-use Rattle.intervals.proofs.Sweeps.{meets-past}
 use Rattle.intervals.proofs.Pieces.{meets, cuts, piece-none, shared-piece, meets-piece, cuts-piece}
-use Rattle.intervals.proofs.Passes.{interval-above, meeting}
 
 max-assoc : (a b c : ℕ) → max a (max b c) ≡ max (max a b) c
 max-assoc a b c = omega arith
@@ -60,6 +59,13 @@ meet-comm : (a b : Interval) → meet a b ≡ meet b a
 unfolding meet
 meet-comm a b = rw (max-comm (a .0) (b .0), min-comm (a .1) (b .1))
 
+-- an interval that ends where a list begins, or before, meets none of it
+meets-none : (lo : ℕ) (a : Interval) (B : List Interval) → Above lo B → a .1 ≤ lo → meets a B ≡ []
+unfolding meetsOf meet
+meets-none lo a [] hB h = refl
+meets-none lo a (b ∷ B) hB h =
+    rw (piece-none (max (a .0) (b .0)) (min (a .1) (b .1)) (omega arith), meets-none (b .1) a B (hB .2) (omega arith))
+
 -- an interval at the head of the second list is met by each of the first: as though it met the first list
 pub shared-cons : (lo lo′ : ℕ) (a : Interval) (A B : List Interval) → Above lo (a ∷ A) → Above lo′ B
     → shared B (a ∷ A) ≡ meets a B ++ shared B A
@@ -68,8 +74,8 @@ shared-cons lo lo′ a A [] hA hB = refl
 shared-cons lo lo′ a A (b ∷ B) hA hB =
     rw (shared-cons lo (b .1) a A B hA (hB .2), meet-comm b a)
     (middle (meet a b) (meets b A) (meets a B) (shared B A) (elim (decLe (a .1) (b .1)) [
-      | yes h ↦ inr (meets-past meeting (b .1) a B (hA .1) (interval-above (b .1) B (hB .2)) h)
-      | no h ↦ inl (meets-past meeting (a .1) b A (hB .1) (interval-above (a .1) A (hA .2)) (omega arith))
+      | yes h ↦ inr (meets-none (b .1) a B (hB .2) h)
+      | no h ↦ inl (meets-none (a .1) b A (hA .2) (omega arith))
     ]))
 
 -- ---- taking away: of the two pieces in the middle at least one is empty

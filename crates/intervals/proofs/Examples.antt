@@ -6,9 +6,10 @@ use mathlib.Core.List.{List, [], _∷_}
 use native.Mathlib.Omega.{arith}
 use lib.ListN.{length}
 use Rattle.intervals.specs.Lists.{meetsOf, sharedOf, cutsOf, withoutOf}
-use Rattle.intervals.specs.Intervals.{Interval, Strict, Canonical, inside, holds, piece, meet, shared, cut, without}
+use Rattle.intervals.specs.Intervals.{Interval, Canonical, inside, holds, piece, cut, without}
+use Rattle.intervals.proofs.Model.{Strict, meet, shared}
 use Rattle.intervals.specs.Cover.{growOf, coverOf, cover, coverAll}
-use Rattle.intervals.proofs.Laws.{sweepFrom, sweepOf, stripFrom, stripOf, sweep, strip, joinFrom, join, holds-cover-all}
+use Rattle.intervals.proofs.Laws.{holds-cover-all}
 
 abbrev left : List Interval
 left = (0, 10) ∷ (10, 20) ∷ (30, 40) ∷ []
@@ -39,21 +40,9 @@ shared-left-right : shared left right ≡ (5, 10) ∷ (12, 14) ∷ (18, 20) ∷ 
 unfolding sharedOf meetsOf meet piece
 shared-left-right = refl
 
-sweep-left-right : sweep left right ≡ (5, 10) ∷ (12, 14) ∷ (18, 20) ∷ (30, 33) ∷ []
-unfolding sweepOf sweepFrom meet piece
-sweep-left-right = refl
-
 without-left-right : without left right ≡ (0, 5) ∷ (10, 12) ∷ (14, 18) ∷ (33, 40) ∷ []
 unfolding withoutOf cutsOf cut piece
 without-left-right = refl
-
-strip-left-right : strip left right ≡ (0, 5) ∷ (10, 12) ∷ (14, 18) ∷ (33, 40) ∷ []
-unfolding stripOf stripFrom piece
-strip-left-right = refl
-
-join-left : join left ≡ (0, 20) ∷ (30, 40) ∷ []
-unfolding join joinFrom
-join-left = refl
 
 -- a range takes in those that it touches, as at 12, and a range that is none changes nothing
 cover-right : cover right 10 12 ≡ (5, 14) ∷ (18, 33) ∷ []

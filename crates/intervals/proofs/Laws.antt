@@ -8,18 +8,17 @@ use native.Mathlib.Decide.{decLt}
 use native.Mathlib.Omega.{arith}
 use lib.ListN.{length}
 use Rattle.intervals.specs.Lists.{sharedOf, withoutOf}
-use Rattle.intervals.specs.Intervals.{Interval, Above, Strict, Canonical, inside, holds, piece, shared, without}
+use Rattle.intervals.specs.Intervals.{Interval, Canonical, inside, holds, piece, without}
+use Rattle.intervals.proofs.Model.{Above, Strict, shared}
 use Rattle.intervals.specs.Cover.{cover, coverAll, uncover}
 use Rattle.intervals.proofs.Pieces.{meets, cuts}
 use Rattle.intervals.proofs.Ordered.{apart→above, shared-above, without-above}
 use Rattle.intervals.proofs.Algebra.{meets-shared, shared-cons, without-cuts}
-use Rattle.intervals.proofs.Members.{holds-meets, holds-cuts, and-nor, either-way, never-both, below, in-it, past, where-is, inside-below, inside-past}
+use Rattle.intervals.proofs.Members.{holds-meets, holds-cuts, and-nor, below, in-it, past, where-is, inside-below, inside-past}
 use Rattle.intervals.proofs.Unique.{apart-unique}
 use Rattle.intervals.proofs.Fewest.{apart-fewest}
-use Rattle.intervals.proofs.Joined.{holds-join-from, join-from-apart}
 use Rattle.intervals.proofs.Covers.{holds-cover-of, cover-of-apart, length-cover-of}
 use Rattle.intervals.proofs.Uncovers.{cuts-apart, length-cuts}
-use Rattle.intervals.proofs.Passes.{interval-above, meeting, cutting}
 pub use Rattle.intervals.proofs.Lists.{meets-append, shared-append, shared-nil}
 pub use Rattle.intervals.proofs.Lists.{cuts-append, without-append, without-nil}
 pub use Rattle.intervals.proofs.Lists.{All, all-append, all-of, all-shared, all-without, map-shared, map-without}
@@ -31,11 +30,8 @@ pub use Rattle.intervals.proofs.Sweeps.{sweep-first, sweep-second, swee
 pub use Rattle.intervals.proofs.Sweeps.{strip-first, strip-second, strip-nil, strip-is-without, strip-skip, above-le}
 pub use Rattle.intervals.proofs.Ordered.{apart-weaken}
 pub use Rattle.intervals.proofs.Pieces.{piece-some, piece-none}
-pub use Rattle.intervals.proofs.Members.{holds-append, holds-piece, Parts}
+pub use Rattle.intervals.proofs.Members.{holds-append, holds-piece}
 pub use Rattle.intervals.proofs.Unique.{holds-below}
-pub use Rattle.intervals.proofs.Passes.{sweep, strip}
-pub use Rattle.intervals.proofs.Joined.{Rising}
-unfoldable pub use Rattle.intervals.proofs.Joined.{joinFrom, join}
 pub use Rattle.intervals.proofs.Uncovers.{uncover-some, uncover-none, length-piece, piece-one, cuts-skip, cuts-above, cuts-open, cuts-gone, cuts-past, cuts-last}
 pub use Rattle.intervals.proofs.Covers.{grow-stop, grow-more, cover-skip, cover-here, cover-some, cover-none}
 
@@ -88,9 +84,6 @@ unfolding sharedOf
 shared-assoc [] B C = refl
 shared-assoc (a ∷ A) B C = rw (shared-append _ (meets a B) (shared A B) C, shared-assoc A B C, meets-shared a B C)
 
-pub interval-sweep-is-shared : (A B : List Interval) → Strict A → Strict B → sweep A B ≡ shared A B
-interval-sweep-is-shared A B hA hB = sweep-is-shared meeting A B (interval-above 0 A hA) (interval-above 0 B hB)
-
 -- ---- what a list keeps without another
 
 pub without-strict : (A B : List Interval) → Strict A → Strict B → Strict (without A B)
@@ -113,28 +106,6 @@ without-swap A B C hB hC = go 0 A C hC
     go : (lo : ℕ) (A C : List Interval) → Above lo C → without (without A B) C ≡ without (without A C) B
     go lo A [] hC = refl
     go lo A (c ∷ C) hC = rw (← without-cuts 0 A B c hB (hC .1)) (go (c .1) (cuts A c) C (hC .2))
-
-pub interval-strip-is-without : (A B : List Interval) → Strict A → Strict B → strip A B ≡ without A B
-interval-strip-is-without A B hA hB = strip-is-without cutting A B (interval-above 0 A hA) (interval-above 0 B hB)
-
--- every number of A is in exactly one of the two, and no other number is in either
-pub parts : (A B : List Interval) → Parts A (shared A B) (without A B)
-parts A B = record {
-  all = λ x. rw (holds-shared A B x, holds-without A B x) (either-way (holds A x) (holds B x));
-  once = λ x. rw (holds-shared A B x, holds-without A B x) (never-both (holds A x) (holds B x));
-}
-
--- ---- intervals whose starts rise, joined
-
-pub join-canonical : (A : List Interval) → Rising 0 A → Canonical (join A)
-unfolding join
-join-canonical [] h = tt
-join-canonical (a ∷ A) h = join-from-apart (a .0) 0 (a .0) (a .1) A (omega arith) (h .1) (omega arith) (h .2)
-
-pub holds-join : (A : List Interval) → Rising 0 A → (x : ℕ) → holds (join A) x ≡ holds A x
-unfolding join holds
-holds-join [] h x = refl
-holds-join (a ∷ A) h x = holds-join-from (a .0) (a .0) (a .1) A x (omega arith) (h .2)
 
 -- ---- one more range covered
 

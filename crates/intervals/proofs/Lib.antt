@@ -1,16 +1,15 @@
+pub mod Model
 pub mod Laws
 pub mod Lists
 pub mod Reordered
 pub mod Kept
 pub mod Sweeps
 pub mod Pieces
-pub mod Passes
 pub mod Ordered
 pub mod Algebra
 pub mod Members
 pub mod Unique
 pub mod Fewest
-pub mod Joined
 pub mod Covers
 pub mod Uncovers
 mod Examples

@@ -8,7 +8,8 @@ use native.Mathlib.Decide.{decLt}
 use native.Mathlib.Omega.{arith}
 use borrow.Author.Tests.{lt-ltb, le-ltb, le-leb, lt-leb}
 use Rattle.intervals.specs.Lists.{meetsOf, cutsOf}
-use Rattle.intervals.specs.Intervals.{Interval, inside, holds, piece, meet, cut}
+use Rattle.intervals.specs.Intervals.{Interval, inside, holds, piece, cut}
+use Rattle.intervals.proofs.Model.{meet}
 use Rattle.intervals.proofs.Pieces.{meets, cuts, piece-some, piece-none}
 
 -- a number below, in, or past an interval
@@ -117,12 +118,27 @@ holds-cuts (a ∷ A) b x = rw (
   and-or-distrib-right (inside (a .0) (a .1) x) (holds A x) (not (inside (b .0) (b .1) x)),
 )
 
--- ---- a list in two parts
+-- ---- what is taken away twice
 
 pub and-nor : (p q r : Bool) → (p && not q) && not r ≡ p && not (q || r)
 and-nor true true r = refl
 and-nor true false r = refl
 and-nor false q r = refl
+
+-- ---- two that become one
+
+-- of two that overlap or touch, the first starting first, the one made of both
+pub inside-touch : (s e s′ e′ x : ℕ) → s ≤ s′ → s′ ≤ e → inside s (max e e′) x ≡ inside s e x || inside s′ e′ x
+inside-touch s e s′ e′ x h k = elim (where-is s e x) [
+  | below p ↦ rw (inside-below s e x p, inside-below s (max e e′) x p, inside-below s′ e′ x (omega arith))
+  | in-it p q ↦ rw (inside-yes s e x p q, inside-yes s (max e e′) x p (omega arith))
+  | past p ↦ rw (inside-past s e x p) (elim (decLt x e′) [
+    | yes q ↦ rw (inside-yes s′ e′ x (omega arith) q, inside-yes s (max e e′) x (omega arith) (omega arith))
+    | no q ↦ rw (inside-past s′ e′ x (omega arith), inside-past s (max e e′) x (omega arith))
+  ])
+]
+
+-- ---- a list in two parts
 
 pub either-way : (p q : Bool) → p ≡ (p && q) || (p && not q)
 either-way true true = refl
@@ -133,8 +149,3 @@ pub never-both : (p q : Bool) → (p && q) && (p && not q) ≡ false
 never-both true true = refl
 never-both true false = refl
 never-both false q = refl
-
--- what A holds is in exactly one of L and R, and nothing else is in either
-pub record Parts (A L R : List Interval) : Type 0 where
-  pub all : (x : ℕ) → holds A x ≡ holds L x || holds R x
-  pub once : (x : ℕ) → holds L x && holds R x ≡ false

@@ -4,7 +4,8 @@ use mathlib.Core.List.{List, [], _∷_, _++_}
 use native.Mathlib.Decide.{decLt}
 use native.Mathlib.Omega.{arith}
 use Rattle.intervals.specs.Lists.{meetsOf, sharedOf, cutsOf, withoutOf}
-use Rattle.intervals.specs.Intervals.{Interval, Above, Apart, piece, meet, shared, cut, without}
+use Rattle.intervals.specs.Intervals.{Interval, Apart, piece, cut, without}
+use Rattle.intervals.proofs.Model.{Above, meet, shared}
 use Rattle.intervals.proofs.Pieces.{meets, cuts, piece-some, piece-none}
 
 -- ---- a list above a lower bound, and one list after another

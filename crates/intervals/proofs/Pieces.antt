@@ -6,7 +6,8 @@ use native.Mathlib.Decide.{decLt}
 use native.Mathlib.Omega.{arith}
 use borrow.Author.Tests.{lt-ltb, le-ltb}
 use Rattle.intervals.specs.Lists.{meetsOf, sharedOf, cutsOf}
-use Rattle.intervals.specs.Intervals.{Interval, piece, meet, shared, cut}
+use Rattle.intervals.specs.Intervals.{Interval, piece, cut}
+use Rattle.intervals.proofs.Model.{meet, shared}
 use Rattle.intervals.proofs.Lists.{All, all-append}
 
 -- `meetsOf` and `cutsOf` of intervals

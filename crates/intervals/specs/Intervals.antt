@@ -1,23 +1,14 @@
--- Lists of half-open intervals of natural numbers: strict and canonical lists, the numbers that a list holds, what two lists
--- share, and what one keeps without the other. Definitions only. Assumes nothing.
+-- Lists of half-open intervals of natural numbers: canonical lists, the numbers that a list holds, and what one list keeps without another.
+-- Definitions only. Assumes nothing.
 use Prim.Native.Nat.{ℕ, suc, _≤_, _<_, min, max}
 use mathlib.Core.Bool.{Bool, false, cond, _&&_, _||_}
 use mathlib.Core.List.{List, [], _∷_, _++_}
 use lib.Dec.{leb, ltb}
-use Rattle.intervals.specs.Lists.{sharedOf, withoutOf}
+use Rattle.intervals.specs.Lists.{withoutOf}
 
 -- 01 m6.4: pairs, half-open: (s, e) has the numbers from s on, below e
 abbrev pub Interval : Type 0
 Interval = ℕ × ℕ
-
--- 01 keys.10: each interval is nonempty and starts at or after the end of the one before it, the first at or after lo
-abbrev pub Above : ℕ → List Interval → Type 0
-Above lo [] = Unit {0}
-Above lo (a ∷ A) = (lo ≤ a .0) × (a .0 < a .1) × Above (a .1) A
-
--- 01 keys.10: strict: each end below the next start. A half-open end is past the last number, so that two may touch
-abbrev pub Strict : List Interval → Type 0
-Strict A = Above 0 A
 
 -- 01 m6.4: each interval is nonempty and starts after the end of the one before it, the first at or after lo
 abbrev pub Apart : ℕ → List Interval → Type 0
@@ -40,14 +31,6 @@ holds (a ∷ A) x = inside (a .0) (a .1) x || holds A x
 -- 01 m6.4: nonempty: the interval from s to e, or nothing where that has no number
 unfoldable pub piece : ℕ → ℕ → List Interval
 piece s e = cond (ltb s e) ((s, e) ∷ []) []
-
--- 01 m3.2: shared runs from the larger start to the smaller end
-unfoldable pub meet : Interval → Interval → List Interval
-meet a b = piece (max (a .0) (b .0)) (min (a .1) (b .1))
-
--- 01 m4.1: what two lists share
-abbrev pub shared : List Interval → List Interval → List Interval
-shared = sharedOf meet
 
 -- 01 m3.1, m3.3, m3.4: our leftovers: left, below their start, and right, from their end on; one whole leftover where the two are disjoint
 unfoldable pub cut : Interval → Interval → List Interval

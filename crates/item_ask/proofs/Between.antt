@@ -1,7 +1,7 @@
 -- The table's answers about a key are those of the item's boundaries, which the borrowed range gives. Assumes nothing.
 use Prim.Native.Nat.{ℕ}
-use mathlib.Core.Path.{_≡_, refl, ap₂}
-use mathlib.Core.Bool.{Bool, true, false, _||_}
+use mathlib.Core.Path.{_≡_, refl, sym, ap₂}
+use mathlib.Core.Bool.{false, or-false}
 use mathlib.Core.List.{List}
 use Rattle.key_order.specs.declared.Ordering.{Ordering}
 use Rattle.key_order.specs.declared.Ordering.the-variants.{Less, Equal, Greater}
@@ -38,10 +38,6 @@ tie-equal Less = refl
 tie-equal Equal = refl
 tie-equal Greater = refl
 
-or-false : (b : Bool) → b ≡ b || false
-or-false true = refl
-or-false false = refl
-
 module _ (a k : List ℕ) where
   off-start : isEqual (compareBoundaries (atKey a inclusive) (atKey k exclusiveStart)) ≡ false
   unfolding compareBoundaries compareNumbers
@@ -70,9 +66,9 @@ module _ (pool : List ℕ) where
   on-exclusive-bound (RangeFrom a) k = rw (off-start (bytesOf pool a) k)
   on-exclusive-bound (RangeTo b) k = rw (on-end (bytesOf pool b) k)
   on-exclusive-bound (RangeToInclusive b) k = rw (off-end (bytesOf pool b) k)
-  on-exclusive-bound (RangeAfter a) k = rw (on-start (bytesOf pool a) k) (or-false _)
+  on-exclusive-bound (RangeAfter a) k = rw (on-start (bytesOf pool a) k) (sym (or-false _))
   on-exclusive-bound (RangeAfterTo a b) k = rw (on-start (bytesOf pool a) k, on-end (bytesOf pool b) k)
-  on-exclusive-bound (RangeAfterToInclusive a b) k = rw (on-start (bytesOf pool a) k, off-end (bytesOf pool b) k) (or-false _)
+  on-exclusive-bound (RangeAfterToInclusive a b) k = rw (on-start (bytesOf pool a) k, off-end (bytesOf pool b) k) (sym (or-false _))
 
   pub containment-between : (q : QueryItem) (k : List ℕ)
       → containment pool q k ≡ containmentBetween (boundaryOf pool (toRangeSet q .start)) (boundaryOf pool (toRangeSet q .end)) k

@@ -5,13 +5,9 @@ use Rattle.item_check.specs.declared.Checked.{Checked}
 use Rattle.item_check.specs.declared.Checked.the-variants as checked
 use Rattle.item_check.specs.Checks.{Answer, refusedAs, verdictOf}
 
--- a refusal is its number, its side and its index
+-- an answer that refuses has one refusal
 pub refused-apart : {A : Type 0} (r t : Refusal) → _≡_ {A = Answer A} (refusedAs r) (refusedAs t) → r ≡ t
-refused-apart {A} r t e =
-    let n : r .number ≡ t .number = cc in
-    let s : r .side ≡ t .side = cc in
-    let i : r .index ≡ t .index = cc in
-    λ j. record { number = n j; side = s j; index = i j }
+refused-apart r t e = cc
 
 pub verdict-apart : (a b : Checked) → verdictOf a ≡ verdictOf b → a ≡ b
 verdict-apart checked.Accepted checked.Accepted e = refl

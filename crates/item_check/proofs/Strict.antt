@@ -1,7 +1,7 @@
 -- An accepted list by numbers: its items stand one above another, so that at most one of them holds a key. Assumes nothing.
 use Prim.Native.Nat.{ℕ, zero, suc, _+_, _-_, _≤_, _<_, _/_}
-use mathlib.Core.Path.{_≡_, refl, sym, _∙_}
-use mathlib.Core.Bool.{Bool, true, false, _&&_, true≢false}
+use mathlib.Core.Path.{_≡_, sym, _∙_}
+use mathlib.Core.Bool.{true, _&&_}
 use mathlib.Core.List.{List}
 use native.Mathlib.Decide.{decLt}
 use native.Mathlib.Omega.{arith}
@@ -9,6 +9,7 @@ use lib.ListN.{length}
 use lib.Dec.{leb}
 use borrow.Author.Tests.{ltb-true, leb-true}
 use Rattle.key_order.specs.Order.{isLess}
+use Rattle.key_order.proofs.Bools.{both-true}
 use Rattle.key_order.proofs.Line.{size}
 use Rattle.key_order.proofs.Ranks.{keyRank, extent, between-rank}
 use Rattle.query_item.specs.declared.RangeSetItem.{RangeSetItem}
@@ -19,7 +20,8 @@ use Rattle.query_item.proofs.Held.{holds-between}
 use Rattle.query_item.proofs.Intervals.{rankIn, less-rank, at-most-rank}
 use Rattle.item_check.specs.Checks.{uprightFault}
 use Rattle.item_check.proofs.Scans.{items-all}
-use Rattle.item_check.proofs.Accepted.{AllSound, Following, InOrder, AcceptedList, sound-parts}
+use Rattle.item_check.proofs.Accepted.{AllSound, Following, InOrder, AcceptedList}
+use Rattle.item_check.proofs.Faults.{sound-parts}
 
 -- ---- each item of a list, by its index: it is upright, and ends below the start of the next
 
@@ -66,11 +68,6 @@ module _ {start end : ℕ → ℕ} {count : ℕ} (r : Strict start end count) wh
   ]
 
 -- ---- an accepted list, at a size that fits the pool and the key
-
-pub both-true : (p q : Bool) → p && q ≡ true → (p ≡ true) × (q ≡ true)
-both-true true true e = (refl, refl)
-both-true true false e = absurd (true≢false (sym e))
-both-true false q e = absurd (true≢false (sym e))
 
 module _ (pool ws k : List ℕ) (n : ℕ) (fits : size pool ≤ n) (held : size k ≤ n) where
   abbrev pub startAt : ℕ → ℕ

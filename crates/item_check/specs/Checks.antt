@@ -20,7 +20,13 @@ use Rattle.item_check.specs.declared.Checked.the-variants as checked
 -- 01 refusal.1: a call answers, or refuses with a number, a side (0 ours, 1 theirs) and an index
 pub data Answer (A : Type 0) : Type 0 where
   answered : A → Answer A
-  refused : ℕ → ℕ → ℕ → Answer A
+  refusedAs : Refusal → Answer A
+
+abbrev pub refusal : ℕ → ℕ → ℕ → Refusal
+refusal number side index = record { number = number; side = side; index = index }
+
+abbrev pub refused : {A : Type 0} → ℕ → ℕ → ℕ → Answer A
+refused number side index = refusedAs (refusal number side index)
 
 abbrev pub Verdict : Type 0
 Verdict = Answer (Unit {0})
@@ -31,18 +37,14 @@ accepted = answered tt
 -- 01 refusal.6: an earlier check's refusal decides
 abbrev pub andThen : {A : Type 0} → Verdict → Answer A → Answer A
 andThen (answered u) next = next
-andThen (refused number side index) next = refused number side index
+andThen (refusedAs r) next = refusedAs r
 
 -- 01 demand.1, reading A1: words that are lent for writing, afterwards: a refusal leaves them as they were
 abbrev pub wordsBy : {A : Type 0} → Answer A → List ℕ → List ℕ → List ℕ
 wordsBy (answered a) before after = after
-wordsBy (refused number side index) before after = before
+wordsBy (refusedAs r) before after = before
 
 -- 01 form.11: the paper's numbers for each case of a check's answer
-
-abbrev pub refusedAs : {A : Type 0} → Refusal → Answer A
-refusedAs r = refused (r .number) (r .side) (r .index)
-
 abbrev pub verdictOf : Checked → Verdict
 verdictOf checked.Accepted = accepted
 verdictOf (checked.Refused r) = refusedAs r
@@ -70,37 +72,45 @@ abbrev pub hasEnd : ℕ → Bool
 hasEnd c = not (eqb c 0 || eqb c 3 || eqb c 4 || eqb c 7)
 
 -- 01 keys.5: a key's two words are not both 0
-abbrev pub written : KeyAt → Bool
-written k = not (eqb (k .offset) 0) || not (eqb (k .length) 0)
+abbrev pub nonzero : KeyAt → Bool
+nonzero k = not (eqb (k .offset) 0) || not (eqb (k .length) 0)
 
 -- 01 no.1: unknown code or wrapper, absent key not 0
 abbrev pub malformed : ItemWords → Bool
 malformed it =
     ltb 9 (it .code)
     || ltb 3 (it .wrapper)
-    || (not (hasStart (it .code)) && written (it .start))
-    || (not (hasEnd (it .code)) && written (it .end))
+    || (not (hasStart (it .code)) && nonzero (it .start))
+    || (not (hasEnd (it .code)) && nonzero (it .end))
 
 -- 01 no.2: a key longer than 255 bytes or reaching past the pool; reading A2: past it also where its length is 0
 abbrev pub keyOut : List ℕ → KeyAt → Bool
 keyOut pool k = ltb mostKey (k .length) || ltb (length pool) (k .offset + k .length)
 
+-- 01 no.2: a key of either boundary; a boundary that has none has the absent key, which lies in every pool
+abbrev pub keysOut : List ℕ → RangeSet → Bool
+keysOut pool s = keyOut pool (keyOf (s .start)) || keyOut pool (keyOf (s .end))
+
+-- 01 no.2: of an item
 abbrev pub outside : List ℕ → ItemWords → Bool
-outside pool it = (hasStart (it .code) && keyOut pool (it .start)) || (hasEnd (it .code) && keyOut pool (it .end))
+outside pool it = keysOut pool (rangeOf it)
 
 -- 01 no.5, 02 §1.12: an item that has a wrapper, where a call takes none: a position query, a sheet
 abbrev pub wrapped : ItemWords → Bool
 wrapped it = not (eqb (it .wrapper) 0)
 
--- 01 no.3, refusal.6: the number of what is wrong with an item, 0 where nothing is: 1 before 2, and 3 where the item has to be upright
+-- 01 refusal.6: the number of what is wrong first, 0 where nothing is
+abbrev pub firstFault : ℕ → ℕ → ℕ
+firstFault zero next = next
+firstFault (suc f) next = suc f
+
+-- 01 no.1, no.2, refusal.6: what is wrong with an item: 1 before 2
 abbrev pub itemFault : List ℕ → ItemWords → ℕ
 itemFault pool it = cond (malformed it) 1 (cond (outside pool it) 2 0)
 
+-- 01 no.3, refusal.6: and 3 after these where the item has to be upright
 abbrev pub uprightFault : List ℕ → ItemWords → ℕ
-uprightFault pool it =
-    cond (malformed it) 1
-    (cond (outside pool it) 2
-    (cond (upright pool (rangeOf it)) 0 3))
+uprightFault pool it = firstFault (itemFault pool it) (cond (upright pool (rangeOf it)) 0 3)
 
 abbrev pub faultAt : ℕ → ℕ → ℕ → Verdict
 faultAt zero side index = accepted
@@ -151,7 +161,7 @@ singleVerdict pool it = andThen (poolVerdict pool) (faultAt (itemFault pool it) 
 
 -- 01 no.2, reading A23: the pool, then the keys of both boundaries, and "no item" only after these
 abbrev pub keysVerdict : List ℕ → RangeSet → Verdict
-keysVerdict pool s = cond (keyOut pool (keyOf (s .start)) || keyOut pool (keyOf (s .end))) (refused 2 0 0) accepted
+keysVerdict pool s = cond (keysOut pool s) (refused 2 0 0) accepted
 
 abbrev pub setVerdict : List ℕ → RangeSet → Verdict
 setVerdict pool s = andThen (poolVerdict pool) (keysVerdict pool s)

@@ -2,10 +2,11 @@
 // lent items refuses by these. What a crate above checks besides stands there: the order of a list that is inserted into, position items,
 // intervals and proved positions, a report, a file. Module 1 refuses nothing. Definitions: specs/Checks.antt. Laws: proofs/Laws.antt.
 ghost use mathlib.Core.Path.{_≡_};
+ghost use mathlib.Core.Bool.{_||_};
 ghost use lib.Dec.{eqb};
 ghost use Rattle.query_item.specs.Items.{keyAt, itemWords, itemAt, itemsFrom};
 ghost use Rattle.query_item.specs.Boundaries.{setAt, upright};
-ghost use Rattle.item_check.specs.Checks.{verdictOf, refused, hasStart, hasEnd, written, malformed, keyOut, outside, itemFault, uprightFault, faultAt, poolVerdict, shapeVerdict, firstBad, strictVerdict, wholeVerdict, listVerdict, singleVerdict, keysVerdict, setVerdict, checkVerdict};
+ghost use Rattle.item_check.specs.Checks.{verdictOf, refused, refusal, hasStart, hasEnd, nonzero, malformed, keyOut, itemFault, uprightFault, faultAt, poolVerdict, shapeVerdict, firstBad, strictVerdict, wholeVerdict, listVerdict, singleVerdict, keysVerdict, setVerdict, checkVerdict};
 use item_words::ITEM_SIZE;
 use item_words::item_at;
 use item_words::query_item;
@@ -71,11 +72,18 @@ pub fn check_whole(pool: &[u8], words: &[u32], side: u32) -> Checked
 pub fn refuse(number: u32, side: u32, index: usize) -> Checked
     ensures { λ r. ⌜ verdictOf r ≡ refused number side index ⌝ }
 {
-    Checked::Refused(Refusal {
+    Checked::Refused(refusal_of(number, side, index))
+}
+
+// inner: the refusal of a number, a side and an index.
+pub fn refusal_of(number: u32, side: u32, index: usize) -> Refusal
+    ensures { λ r. ⌜ r ≡ refusal number side index ⌝ }
+{
+    Refusal {
         number,
         side,
         index,
-    })
+    }
 }
 
 // inner: the pool's size, before everything else.
@@ -146,7 +154,7 @@ fn is_sound(pool: &[u8], code: u32, wrapper: u32, i: u32, m: u32, j: u32, n: u32
         start,
         end,
     };
-    if is_malformed(item) | is_outside(pool, item) {
+    if is_malformed(item) | are_out(pool, start, end) {
         return false;
     }
     // a key is upright, whatever its bytes are
@@ -188,7 +196,9 @@ pub fn item_fault(pool: &[u8], item: ItemWords) -> u32
     if is_malformed(item) {
         return 1;
     }
-    if is_outside(pool, item) {
+    let start = item.start;
+    let end = item.end;
+    if are_out(pool, start, end) {
         return 2;
     }
     0
@@ -198,11 +208,9 @@ pub fn item_fault(pool: &[u8], item: ItemWords) -> u32
 pub fn upright_fault(pool: &[u8], item: ItemWords) -> u32
     ensures { λ r. ⌜ r ≡ uprightFault (now (pool .entry)) item ⌝ }
 {
-    if is_malformed(item) {
-        return 1;
-    }
-    if is_outside(pool, item) {
-        return 2;
+    let fault = item_fault(pool, item);
+    if fault != 0 {
+        return fault;
     }
     // a key is upright, whatever its bytes are
     if item.code == 0 {
@@ -238,8 +246,8 @@ pub fn has_end(code: u32) -> bool
 }
 
 // inner: a key's two words are not both 0.
-pub fn is_written(key: KeyAt) -> bool
-    ensures { λ r. ⌜ r ≡ written key ⌝ }
+pub fn is_nonzero(key: KeyAt) -> bool
+    ensures { λ r. ⌜ r ≡ nonzero key ⌝ }
 {
     (key.offset != 0) | (key.length != 0)
 }
@@ -252,8 +260,8 @@ fn is_malformed(item: ItemWords) -> bool
     let end = item.end;
     (9 < item.code)
         | (3 < item.wrapper)
-        | (!has_start(item.code) & is_written(start))
-        | (!has_end(item.code) & is_written(end))
+        | (!has_start(item.code) & is_nonzero(start))
+        | (!has_end(item.code) & is_nonzero(end))
 }
 
 // inner: too long, or reaching past the pool.
@@ -263,12 +271,11 @@ pub fn is_out(pool: &[u8], key: KeyAt) -> bool
     (MOST_KEY < key.length) | (pool.len() < key.offset as usize + key.length as usize)
 }
 
-fn is_outside(pool: &[u8], item: ItemWords) -> bool
-    ensures { λ r. ⌜ r ≡ outside (now (pool .entry)) item ⌝ }
+// One of two keys. Of an item that is not malformed both are asked: a key that it does not have is absent, and lies in every pool.
+fn are_out(pool: &[u8], start: KeyAt, end: KeyAt) -> bool
+    ensures { λ r. ⌜ r ≡ keyOut (now (pool .entry)) start || keyOut (now (pool .entry)) end ⌝ }
 {
-    let start = item.start;
-    let end = item.end;
-    (has_start(item.code) & is_out(pool, start)) | (has_end(item.code) & is_out(pool, end))
+    is_out(pool, start) | is_out(pool, end)
 }
 
 // inner: a single item: the pool, then 1 and 2.
@@ -306,7 +313,7 @@ fn check_keys(pool: &[u8], set: RangeSet) -> Checked
 {
     let start = set.start;
     let end = set.end;
-    if is_out(pool, key_of(start)) | is_out(pool, key_of(end)) {
+    if are_out(pool, key_of(start), key_of(end)) {
         return refuse(2, 0, 0);
     }
     Checked::Accepted

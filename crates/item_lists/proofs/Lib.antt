@@ -1,3 +1,4 @@
+pub mod Accepted
 pub mod Written
 pub mod Read
 pub mod Words

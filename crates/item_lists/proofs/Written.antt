@@ -1,6 +1,6 @@
 -- Items written one after another: what is left to write is written from where a pass stands, and what enough room leaves. Assumes nothing.
 use Prim.Native.Nat.{ℕ, suc, _+_, _*_, _/_, _≤_}
-use mathlib.Core.Path.{_≡_, refl, sym, ap, _∙_}
+use mathlib.Core.Path.{_≡_, refl, sym, ap, subst, _∙_}
 use mathlib.Core.Bool.{Bool, true, false, cond}
 use mathlib.Core.List.{List, [], _∷_, _++_}
 use native.Mathlib.Omega.{arith}
@@ -10,8 +10,15 @@ use lib.Seq.{sets, sets-eq, length-sets}
 use lib.Dec.{ltb}
 use borrow.Author.Tests.{lt-ltb}
 use Rattle.query_item.specs.declared.ItemWords.{ItemWords}
+use Rattle.query_item.specs.declared.MaybeItem.{MaybeItem}
+use Rattle.query_item.specs.declared.MaybeItem.the-variants.{NoItem, Item}
 use Rattle.query_item.specs.Items.{itemSize, flat, flatAll, withItem}
-use Rattle.item_lists.specs.Written.{laidOver, putAll, Put}
+use Rattle.item_lists.specs.Written.{asItems, laidOver, putAll, Put}
+
+-- an item that may be missing is one at most
+pub at-most-one : (m : MaybeItem) → length (asItems m) ≤ 1
+at-most-one NoItem = omega arith
+at-most-one (Item q) = omega arith
 
 pub length-with : (ws : List ℕ) (i : ℕ) (it : ItemWords) → length (withItem ws i it) ≡ length ws
 unfolding withItem
@@ -51,6 +58,10 @@ module _ {W : List ItemWords} {out₀ : List ℕ} {n₀ : ℕ} {out : List ℕ} 
     many = omega (arith, v .many, p .count, simp length-append at (ap length e));
   }
 
+  pub left-one : {it : ItemWords} {R′ : List ItemWords} {out′ : List ℕ} → R ≡ it ∷ R′ → out′ ≡ withItem out n it → Left W out₀ n₀ out′ (n + 1) R′
+  unfolding putAll
+  left-one {it} {R′} e p = left-put (it ∷ []) R′ e (record { count = refl; words = p })
+
   -- nothing is left
   pub left-done : R ≡ [] → Put out₀ n₀ W out n
   unfolding putAll
@@ -65,6 +76,10 @@ module _ {W : List ItemWords} {out₀ : List ℕ} {n₀ : ℕ} {out : List ℕ} 
     count = omega (arith, v .many, p .count);
     words = p .words ∙ sym (v .words);
   }
+
+  -- what is left, told otherwise
+  pub left-as : (R′ : List ItemWords) → R ≡ R′ → Left W out₀ n₀ out n R′
+  left-as R′ e = subst (λ (S : List ItemWords). Left W out₀ n₀ out n S) e v
 
 -- two runs, one after the other
 pub put-then : (out : List ℕ) (n : ℕ) (H R : List ItemWords) {out′ out″ : List ℕ} {n′ n″ : ℕ} → Put out n H out′ n′ → Put out′ n′ R out″ n″

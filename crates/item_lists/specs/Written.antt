@@ -2,25 +2,20 @@
 -- Definitions only. Assumes nothing.
 use Prim.Native.Nat.{ℕ, suc, _+_, _/_}
 use mathlib.Core.Path.{_≡_}
-use mathlib.Core.List.{List, [], _∷_, _++_, map}
+use mathlib.Core.List.{List, [], _∷_, _++_}
 use mathlib.Core.Bool.{Bool}
 use lib.ListN.{length, drop}
 use lib.Dec.{ltb}
 use Rattle.query_item.specs.declared.ItemWords.{ItemWords}
-use Rattle.query_item.specs.declared.QueryItem.{QueryItem}
 use Rattle.query_item.specs.declared.MaybeItem.{MaybeItem}
 use Rattle.query_item.specs.declared.MaybeItem.the-variants.{NoItem, Item}
 use Rattle.query_item.specs.Items.{itemSize, wordsOf, flatAll, withItem}
 use Rattle.item_check.specs.Checks.{Answer, wordsBy}
 
--- 01 change.2: an item that may be missing, as a list of at most one
-abbrev pub asItems : MaybeItem → List QueryItem
+-- 01 change.2: an item that may be missing, as a list of at most one, as it is written: wrappers are dropped (01 m3.7, change.1)
+abbrev pub asItems : MaybeItem → List ItemWords
 asItems NoItem = []
-asItems (Item q) = q ∷ []
-
--- 01 m3.7, change.1: items as they are written: wrappers are dropped
-abbrev pub plain : List QueryItem → List ItemWords
-plain Q = map (wordsOf 0) Q
+asItems (Item q) = wordsOf 0 q ∷ []
 
 -- 01 refusal.5: room means whole items; so many items need more than a list has
 abbrev pub passes : ℕ → List ℕ → Bool

@@ -73,7 +73,7 @@ module _ (s : List ℕ) where
       go false e = sym (other-length s w (λ q. false≢true (sym e ∙ eq-eqb n (length w) (sym h ∙ q))))
 
   -- the code with these tests in front: at a length that is known, all but the names of that length fall away
-  code-by-length : (n : ℕ) → length s ≡ n
+  pub code-by-length : (n : ℕ) → length s ≡ n
       → codeOf s
       ≡ cond (eqb n (length keyName) && same s keyName) 0
       (cond (eqb n (length rangeName) && same s rangeName) 1
@@ -100,33 +100,6 @@ module _ (s : List ℕ) where
         length-first n rangeAfterToName h,
         length-first n rangeAfterToInclusiveName h,
       )
-
-  pub code-of-3 : length s ≡ 3 → codeOf s ≡ cond (same s keyName) 0 noCode
-  code-of-3 = code-by-length 3
-
-  pub code-of-5 : length s ≡ 5 → codeOf s ≡ cond (same s rangeName) 1 noCode
-  code-of-5 = code-by-length 5
-
-  pub code-of-7 : length s ≡ 7 → codeOf s ≡ cond (same s rangeToName) 5 noCode
-  code-of-7 = code-by-length 7
-
-  pub code-of-10 : length s ≡ 10 → codeOf s ≡ cond (same s rangeAfterName) 7 noCode
-  code-of-10 = code-by-length 10
-
-  pub code-of-12 : length s ≡ 12 → codeOf s ≡ cond (same s rangeAfterToName) 8 noCode
-  code-of-12 = code-by-length 12
-
-  pub code-of-14 : length s ≡ 14 → codeOf s ≡ cond (same s rangeInclusiveName) 2 noCode
-  code-of-14 = code-by-length 14
-
-  pub code-of-16 : length s ≡ 16 → codeOf s ≡ cond (same s rangeToInclusiveName) 6 noCode
-  code-of-16 = code-by-length 16
-
-  pub code-of-21 : length s ≡ 21 → codeOf s ≡ cond (same s rangeAfterToInclusiveName) 9 noCode
-  code-of-21 = code-by-length 21
-
-  pub code-of-9 : length s ≡ 9 → codeOf s ≡ cond (same s rangeFullName) 3 (cond (same s rangeFromName) 4 noCode)
-  code-of-9 = code-by-length 9
 
   pub code-of-none : (length s ≡ 3 → ⊥) → (length s ≡ 5 → ⊥) → (length s ≡ 7 → ⊥) → (length s ≡ 9 → ⊥)
       → (length s ≡ 10 → ⊥) → (length s ≡ 12 → ⊥) → (length s ≡ 14 → ⊥) → (length s ≡ 16 → ⊥) → (length s ≡ 21 → ⊥)

@@ -9,8 +9,8 @@ ghost use lib.ListN.{length};
 ghost use Rattle.query_item.specs.Items.{same};
 ghost use Rattle.lent_text.specs.Text.{stored};
 ghost use Rattle.item_name.specs.Names.{noCode, nameOf, codeOf};
-use boundary::is_equal;
 use key_order::compare;
+use key_order::is_equal;
 use lent_text::put_text;
 
 // inner: the code of a name; 10 where no item is called so. But for two, the names differ in length.

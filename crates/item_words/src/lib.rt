@@ -7,11 +7,11 @@ ghost use mathlib.Core.Path.{_≡_};
 ghost use Prim.Native.Nat.{_*_, _/_, _<_};
 ghost use lib.ListN.{length, getD};
 ghost use lib.Seq.{sets};
-ghost use Rattle.query_item.specs.Items.{itemOf, itemSize, itemAt, queryItem, itemWords, wordsOf, flat, withItem};
+ghost use Rattle.query_item.specs.Items.{itemOf, itemSize, itemAt, queryItem, itemWords, withKeys, wordsOf, flat, withItem};
+use key_order::least;
 use query_item::ItemWords;
 use query_item::KeyAt;
 use query_item::QueryItem;
-use query_item::pooled::least;
 
 // The words of an item.
 pub const ITEM_SIZE: usize = 6;
@@ -113,20 +113,21 @@ pub fn words_of(wrapper: u32, item: QueryItem) -> ItemWords
         length: 0,
     };
     match item {
-        QueryItem::Key(a) => item_words(0, wrapper, a, none),
-        QueryItem::Range(a, b) => item_words(1, wrapper, a, b),
-        QueryItem::RangeInclusive(a, b) => item_words(2, wrapper, a, b),
-        QueryItem::RangeFull => item_words(3, wrapper, none, none),
-        QueryItem::RangeFrom(a) => item_words(4, wrapper, a, none),
-        QueryItem::RangeTo(b) => item_words(5, wrapper, none, b),
-        QueryItem::RangeToInclusive(b) => item_words(6, wrapper, none, b),
-        QueryItem::RangeAfter(a) => item_words(7, wrapper, a, none),
-        QueryItem::RangeAfterTo(a, b) => item_words(8, wrapper, a, b),
-        QueryItem::RangeAfterToInclusive(a, b) => item_words(9, wrapper, a, b),
+        QueryItem::Key(a) => make_item(0, wrapper, a, none),
+        QueryItem::Range(a, b) => make_item(1, wrapper, a, b),
+        QueryItem::RangeInclusive(a, b) => make_item(2, wrapper, a, b),
+        QueryItem::RangeFull => make_item(3, wrapper, none, none),
+        QueryItem::RangeFrom(a) => make_item(4, wrapper, a, none),
+        QueryItem::RangeTo(b) => make_item(5, wrapper, none, b),
+        QueryItem::RangeToInclusive(b) => make_item(6, wrapper, none, b),
+        QueryItem::RangeAfter(a) => make_item(7, wrapper, a, none),
+        QueryItem::RangeAfterTo(a, b) => make_item(8, wrapper, a, b),
+        QueryItem::RangeAfterToInclusive(a, b) => make_item(9, wrapper, a, b),
     }
 }
 
-fn item_words(code: u32, wrapper: u32, start: KeyAt, end: KeyAt) -> ItemWords
+// inner: an item by its parts.
+pub fn make_item(code: u32, wrapper: u32, start: KeyAt, end: KeyAt) -> ItemWords
     ensures { λ r. ⌜ r ≡ itemWords code wrapper start end ⌝ }
 {
     ItemWords {
@@ -135,6 +136,13 @@ fn item_words(code: u32, wrapper: u32, start: KeyAt, end: KeyAt) -> ItemWords
         start,
         end,
     }
+}
+
+// inner: an item with other keys.
+pub fn with_keys(item: ItemWords, start: KeyAt, end: KeyAt) -> ItemWords
+    ensures { λ r. ⌜ r ≡ withKeys item start end ⌝ }
+{
+    make_item(item.code, item.wrapper, start, end)
 }
 
 // inner: writes an item at an index; where it has no room nothing is written.

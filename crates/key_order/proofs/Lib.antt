@@ -1,3 +1,5 @@
+pub mod Impossible
+pub mod Bools
 pub mod Numbers
 pub mod Line
 pub mod Laws

@@ -45,7 +45,7 @@ orderNumber Greater = 2
 abbrev pub numberOrder : ℕ → Ordering
 numberOrder x = byTests (ltb x 1) (ltb 1 x)
 
--- 01 m1.1: tests of an answer: less, less or equal, equal
+-- 01 m1.1: tests of an answer: less, less or equal, equal, greater
 
 abbrev pub isLess : Ordering → Bool
 isLess Less = true
@@ -61,3 +61,8 @@ abbrev pub isEqual : Ordering → Bool
 isEqual Less = false
 isEqual Equal = true
 isEqual Greater = false
+
+abbrev pub isGreater : Ordering → Bool
+isGreater Less = false
+isGreater Equal = false
+isGreater Greater = true

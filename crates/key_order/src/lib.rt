@@ -9,7 +9,7 @@ ghost use mathlib.Core.Path.{_≡_};
 ghost use mathlib.Core.Bool.{true, cond};
 ghost use Prim.Native.Nat.{_+_, _<_, _≤_, min};
 ghost use lib.ListN.{length, drop};
-ghost use Rattle.key_order.specs.Order.{compareNumbers, compareKeys, smaller, orderNumber, numberOrder};
+ghost use Rattle.key_order.specs.Order.{compareNumbers, compareKeys, smaller, orderNumber, numberOrder, isLess, isAtMost, isEqual, isGreater};
 ghost use Rattle.key_order.specs.Words.{be};
 ghost use Rattle.key_order.specs.Inner.{Reached};
 
@@ -59,6 +59,50 @@ pub fn order_of(x: u64) -> Ordering
     Ordering::Equal
 }
 
+// inner: whether an answer is Less.
+pub fn is_less(o: Ordering) -> bool
+    ensures { λ r. ⌜ r ≡ isLess o ⌝ }
+{
+    match o {
+        Ordering::Less => true,
+        Ordering::Equal => false,
+        Ordering::Greater => false,
+    }
+}
+
+// inner: whether it is not Greater.
+pub fn is_at_most(o: Ordering) -> bool
+    ensures { λ r. ⌜ r ≡ isAtMost o ⌝ }
+{
+    match o {
+        Ordering::Less => true,
+        Ordering::Equal => true,
+        Ordering::Greater => false,
+    }
+}
+
+// inner: whether it is Equal.
+pub fn is_equal(o: Ordering) -> bool
+    ensures { λ r. ⌜ r ≡ isEqual o ⌝ }
+{
+    match o {
+        Ordering::Less => false,
+        Ordering::Equal => true,
+        Ordering::Greater => false,
+    }
+}
+
+// inner: whether it is Greater.
+pub fn is_greater(o: Ordering) -> bool
+    ensures { λ r. ⌜ r ≡ isGreater o ⌝ }
+{
+    match o {
+        Ordering::Less => false,
+        Ordering::Equal => false,
+        Ordering::Greater => true,
+    }
+}
+
 // inner: how a number stands to another, as a number: no branch.
 pub fn stand_numbers(x: u64, y: u64) -> u64
     ensures { λ r. ⌜ r ≡ orderNumber (compareNumbers x y) ⌝ }
@@ -79,7 +123,8 @@ pub fn compare_numbers(x: u64, y: u64) -> Ordering
     order_of(stand_numbers(x, y))
 }
 
-fn least(m: usize, n: usize) -> usize
+// inner: the smaller of two counts.
+pub fn least(m: usize, n: usize) -> usize
     ensures { λ r. ⌜ r ≡ min m n ⌝ }
 {
     if m < n { m } else { n }
@@ -129,10 +174,18 @@ fn word(bytes: &[u8]) -> u64
         + wide(bytes[0]) * 72057594037927936
 }
 
-fn wide(x: u8) -> u64
+// inner: a byte as a number of 64 bits.
+pub fn wide(x: u8) -> u64
     ensures { λ r. ⌜ (r ≡ x) × (r < 256) ⌝ }
 {
     x as u64
+}
+
+// inner: a byte as a number of 32 bits.
+pub fn wide_u32(x: u8) -> u32
+    ensures { λ r. ⌜ (r ≡ x) × (r < 256) ⌝ }
+{
+    x as u32
 }
 
 // How what is left of a stands to what is left of b, from a place on that both have.

@@ -2,12 +2,13 @@
 use Prim.Native.Nat.{ℕ}
 use mathlib.Core.Path.{_≡_, refl, sym, _∙_}
 use mathlib.Core.Bool.{true, not}
-use mathlib.Core.List.{List, [], _∷_}
+use mathlib.Core.List.{List, []}
 use Rattle.key_order.specs.declared.Ordering.{Ordering}
 use Rattle.key_order.specs.declared.Ordering.the-variants.{Less, Equal, Greater}
-use Rattle.key_order.specs.Order.{compareNumbers, compareKeys, thenBy, isLess, isAtMost, isEqual}
+use Rattle.key_order.specs.Order.{compareNumbers, compareKeys, isLess, isAtMost, isEqual}
 use Rattle.key_order.specs.Boundary.{exclusiveEnd, inclusive, exclusiveStart, Boundary, unboundedStart, unboundedEnd, atKey, compareBoundaries}
 use Rattle.key_order.proofs.Laws.{empty-at-most, next-at-most}
+use Rattle.query_item.proofs.Held.{tie-equal, tie-greater}
 use Rattle.keyless.specs.Keyless.{nextKey, keylessBetween, firstKey}
 
 -- boundaries that a range can start with, and end with
@@ -25,18 +26,6 @@ EndsAt unboundedEnd = Unit {0}
 EndsAt (atKey b exclusiveEnd) = Unit {0}
 EndsAt (atKey b inclusive) = Unit {0}
 EndsAt (atKey b exclusiveStart) = ⊥
-
--- ---- at a tie of keys the kinds decide
-
-tie-equal : (o : Ordering) → isAtMost (thenBy o Equal) ≡ isAtMost o
-tie-equal Less = refl
-tie-equal Equal = refl
-tie-equal Greater = refl
-
-tie-greater : (o : Ordering) → isAtMost (thenBy o Greater) ≡ isLess o
-tie-greater Less = refl
-tie-greater Equal = refl
-tie-greater Greater = refl
 
 equal-not-less : (o : Ordering) → isAtMost o ≡ true → isEqual o ≡ not (isLess o)
 equal-not-less Less h = refl

@@ -131,7 +131,9 @@ module _ (pool : List ℕ) (n : ℕ) (fits : size pool ≤ n) (a : RangeSet) (A 
   pub keyless-inside : keyless pool a ≡ true → (k : List ℕ) → size k ≤ n → inside (interval pool n fits a .0) (interval pool n fits a .1) (keyRank n k) ≡ false
   unfolding inside
   keyless-inside t k l = go (rankIn pool n fits (a .start)) (rankIn pool n fits (a .end)) (keyRank n k)
-      (sym (between-rank n (boundaryOf pool (a .start)) (boundaryOf pool (a .end)) k (omega (arith, boundary-fits pool (a .start))) (omega (arith, boundary-fits pool (a .end))) l) ∙ keyless-set .0 t k)
+      (sym (between-rank n (boundaryOf pool (a .start)) (boundaryOf pool (a .end)) k
+      (omega (arith, boundary-fits pool (a .start))) (omega (arith, boundary-fits pool (a .end))) l)
+      ∙ keyless-set .0 t k)
     where
       go : (s e x : ℕ) → leb s x && leb x e ≡ false → leb s x && ltb x (e + 1) ≡ false
       go s e x f = elim (decLe x e) [

@@ -11,7 +11,7 @@ ghost use Rattle.query_item.specs.Items.{bytesOf};
 ghost use Rattle.query_item.specs.Boundaries.{boundaryOf, fromTo};
 ghost use Rattle.query_item.specs.declared.RangeSetItem.the-variants.{UnboundedStart, ExclusiveStart};
 ghost use Rattle.keyless.specs.Keyless.{nextKey, opensAt, pieceItem};
-use boundary::is_equal;
+use key_order::is_equal;
 use query_item::KeyAt;
 use query_item::MaybeItem;
 use query_item::RangeSet;

@@ -1,4 +1,4 @@
--- What a reader of `krl_file` may cite, in the order of specs/. The answer: `answer-apart`, and what is known where the call answers,
+-- What a reader of `krl_file` may cite, in the order of specs/. The answer: `file-answer-apart`, and what is known where the call answers,
 -- `answered→read`. The file: `well-formed→whole`, `head-fits`, `counts-few`, `room-enough`, `length-pool`, `length-ours`, `length-theirs`.
 -- The lent lists: `length-laid`, `ours-read-back`, `theirs-read-back`. Assumes nothing.
 use Prim.Native.Nat.{ℕ, _+_, _*_, _/_, _≤_}
@@ -8,6 +8,7 @@ use mathlib.Core.List.{List, []}
 use native.Mathlib.Omega.{arith}
 use lib.ListN.{length, drop, length-take, length-drop, length-append}
 use borrow.Author.Tests.{ltb-false, le-ltb}
+use Rattle.key_order.proofs.Impossible.{impossible}
 use Rattle.query_item.specs.declared.ItemWords.{ItemWords}
 use Rattle.query_item.specs.Items.{itemSize, itemsFrom, flatAll}
 use Rattle.item_check.specs.Checks.{Answer, answered, refused, accepted, andThen}
@@ -15,7 +16,8 @@ use Rattle.item_check.proofs.Laws.{refused-apart}
 use Rattle.krl_file.specs.declared.FileParts.{FileParts}
 use Rattle.krl_file.specs.declared.FileAnswer.{FileAnswer}
 use Rattle.krl_file.specs.declared.FileAnswer.the-variants.{Read, Refused}
-use Rattle.krl_file.specs.File.{headSize, recordSize, poolLength, oursCount, theirsCount, oursFrom, theirsFrom, wellFormed, poolOf, oursOf, theirsOf, fileAnswerOf, partsOf, roomAnswer, fileAnswer}
+use Rattle.krl_file.specs.File.{headSize, recordSize, poolLength, oursCount, theirsCount, oursFrom, theirsFrom, wellFormed, poolOf, oursOf}
+use Rattle.krl_file.specs.File.{theirsOf, fileAnswerOf, partsOf, fileRoomAnswer, fileAnswer}
 use Rattle.item_lists.specs.Written.{passes, laidOver}
 use Rattle.item_lists.proofs.Written.{length-flat}
 use Rattle.item_lists.proofs.Read.{items-read}
@@ -26,11 +28,11 @@ pub use Rattle.krl_file.proofs.Room.{WholeFile, well-formed→whole}
 -- ---- the answer
 
 -- the numbers that an answer stands for tell any two answers apart
-pub answer-apart : (r s : FileAnswer) → fileAnswerOf r ≡ fileAnswerOf s → r ≡ s
-answer-apart (Read p) (Read q) e = cc
-answer-apart (Read p) (Refused s) e = cc
-answer-apart (Refused r) (Read q) e = cc
-answer-apart (Refused r) (Refused s) e = ap Refused (refused-apart r s e)
+pub file-answer-apart : (r s : FileAnswer) → fileAnswerOf r ≡ fileAnswerOf s → r ≡ s
+file-answer-apart (Read p) (Read q) e = cc
+file-answer-apart (Read p) (Refused s) e = cc
+file-answer-apart (Refused r) (Read q) e = cc
+file-answer-apart (Refused r) (Refused s) e = ap Refused (refused-apart r s e)
 
 -- what is known of a file and of the lent lists where the call answers
 pub record ReadFile (file ours theirs : List ℕ) (p : FileParts) : Type 0 where
@@ -51,14 +53,14 @@ answered→read file ours theirs p = formed (wellFormed file) refl
       ours-room = ltb-false (length ours / itemSize) (oursCount file) (sym o);
       theirs-room = ltb-false (length theirs / itemSize) (theirsCount file) (sym h);
     }
-    room true u o h w e = absurd (let z : _≡_ {A = ℕ} 0 1 = cc in omega arith)
-    room false true o h w e = absurd (let z : _≡_ {A = ℕ} 0 1 = cc in omega arith)
+    room true u o h w e = impossible cc
+    room false true o h w e = impossible cc
 
     formed : (f : Bool) → wellFormed file ≡ f
-        → _≡_ {A = Answer FileParts} (andThen (cond f accepted (refused 10 0 0)) (roomAnswer file ours theirs)) (answered p)
+        → _≡_ {A = Answer FileParts} (andThen (cond f accepted (refused 10 0 0)) (fileRoomAnswer file ours theirs)) (answered p)
         → ReadFile file ours theirs p
     formed true w e = room (passes (oursCount file) ours) (passes (theirsCount file) theirs) refl refl w e
-    formed false w e = absurd (let z : _≡_ {A = ℕ} 0 1 = cc in omega arith)
+    formed false w e = impossible cc
 
 -- ---- the file
 

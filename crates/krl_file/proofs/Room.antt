@@ -1,6 +1,6 @@
 -- The head of a well-formed file fits the file, and the room of the two lists: what is refused for want of it. Assumes nothing.
 use Prim.Native.Nat.{ℕ, _+_, _*_, _/_, _≤_}
-use mathlib.Core.Path.{_≡_, refl, sym, ap, _∙_}
+use mathlib.Core.Path.{_≡_, sym, ap, _∙_}
 use mathlib.Core.Bool.{Bool, true, false, _||_, _&&_}
 use mathlib.Core.List.{List}
 use native.Mathlib.Omega.{arith}
@@ -9,14 +9,10 @@ use lib.Dec.{leb, eqb}
 use borrow.Author.Tests.{ltb-false, leb-true, eqb-true}
 use Rattle.query_item.specs.Items.{itemSize}
 use Rattle.item_check.specs.Checks.{answered, refused, andThen}
-use Rattle.item_check.proofs.Laws.{or-false}
+use Rattle.item_check.proofs.Laws.{both-true, both-false}
 use Rattle.item_lists.specs.Written.{passes, laidOver}
 use Rattle.krl_file.specs.declared.FileParts.{FileParts}
-use Rattle.krl_file.specs.File.{headSize, recordSize, mostFile, hasMark, hasVersion, poolLength, oursCount, theirsCount, wholeSize, wellFormed, recordsFrom, oursOf, theirsOf, partsOf, roomVerdict, roomAnswer}
-
-both : (p q : Bool) → p && q ≡ true → (p ≡ true) × (q ≡ true)
-both true q e = (refl, e)
-both false q e = absurd (let z : _≡_ {A = ℕ} 0 1 = cc in omega arith)
+use Rattle.krl_file.specs.File.{headSize, recordSize, mostFile, hasMark, hasVersion, poolLength, oursCount, theirsCount, wholeSize, wellFormed, recordsFrom, oursOf, theirsOf, partsOf, fileRoomVerdict, fileRoomAnswer}
 
 -- what a well-formed file is; it is as long as its head says
 pub record WholeFile (file : List ℕ) : Type 0 where
@@ -27,9 +23,9 @@ pub record WholeFile (file : List ℕ) : Type 0 where
 
 pub well-formed→whole : (file : List ℕ) → wellFormed file ≡ true → WholeFile file
 well-formed→whole file e =
-    let last = both (leb (length file) mostFile && hasMark file && hasVersion file) (eqb (length file) (wholeSize file)) e in
-    let two = both (leb (length file) mostFile && hasMark file) (hasVersion file) (last .0) in
-    let one = both (leb (length file) mostFile) (hasMark file) (two .0) in
+    let last = both-true (leb (length file) mostFile && hasMark file && hasVersion file) (eqb (length file) (wholeSize file)) e in
+    let two = both-true (leb (length file) mostFile && hasMark file) (hasVersion file) (last .0) in
+    let one = both-true (leb (length file) mostFile) (hasMark file) (two .0) in
     record {
       small = leb-true (length file) mostFile (one .0);
       marked = one .1;
@@ -51,18 +47,18 @@ module _ (file : List ℕ) {p : FileParts} (is : p ≡ partsOf file) where
 
 -- t and u tell which list passes the room
 module _ (file ours theirs : List ℕ) {p : FileParts} (is : p ≡ partsOf file) {t u : Bool} (o : t ≡ passes (p .ours) ours) (h : u ≡ passes (p .theirs) theirs) where
-  by-parts : roomAnswer file ours theirs ≡ andThen (roomVerdict p ours theirs) (answered p)
-  by-parts = ap (λ (q : FileParts). andThen (roomVerdict q ours theirs) (answered q)) (sym is)
+  by-parts : fileRoomAnswer file ours theirs ≡ andThen (fileRoomVerdict p ours theirs) (answered p)
+  by-parts = ap (λ (q : FileParts). andThen (fileRoomVerdict q ours theirs) (answered q)) (sym is)
 
-  pub room-refused : t || u ≡ true → roomAnswer file ours theirs ≡ refused 6 0 0
+  pub room-refused : t || u ≡ true → fileRoomAnswer file ours theirs ≡ refused 6 0 0
   room-refused e = by-parts ∙ rw (← o, ← h, e)
 
   module _ (e : t || u ≡ false) where
-    pub room-answered : roomAnswer file ours theirs ≡ answered p
+    pub room-answered : fileRoomAnswer file ours theirs ≡ answered p
     room-answered = by-parts ∙ rw (← o, ← h, e)
 
     pub ours-fit : p .ours ≤ length ours / itemSize
-    ours-fit = ltb-false (length ours / itemSize) (p .ours) (sym o ∙ or-false t u .0 e .0)
+    ours-fit = ltb-false (length ours / itemSize) (p .ours) (sym o ∙ both-false t u .0 e .0)
 
     pub theirs-fit : p .theirs ≤ length theirs / itemSize
-    theirs-fit = ltb-false (length theirs / itemSize) (p .theirs) (sym h ∙ or-false t u .0 e .1)
+    theirs-fit = ltb-false (length theirs / itemSize) (p .theirs) (sym h ∙ both-false t u .0 e .1)

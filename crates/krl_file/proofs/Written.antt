@@ -1,12 +1,12 @@
 -- Records written as items, one after the other: what is left of the records is written from where the pass stands. Assumes nothing.
 use Prim.Native.Nat.{ℕ, zero, suc, _+_, _*_, _/_, _-_, _≤_, _<_}
 use mathlib.Core.Path.{_≡_, refl, ap}
-use mathlib.Core.List.{List, [], _∷_}
+use mathlib.Core.List.{List}
 use native.Mathlib.Omega.{arith}
 use lib.ListN.{length}
 use Rattle.query_item.specs.Items.{itemSize, withItem}
-use Rattle.item_lists.specs.Written.{laidOver, putAll}
-use Rattle.item_lists.proofs.Written.{Left, left-start, left-put, left-done, put-laid}
+use Rattle.item_lists.specs.Written.{laidOver}
+use Rattle.item_lists.proofs.Written.{Left, left-start, left-one, left-done, put-laid}
 use Rattle.krl_file.specs.File.{recordSize, recordAt, recordsFrom}
 
 pub length-records : (file : List ℕ) (at n : ℕ) → length (recordsFrom file at n) ≡ n
@@ -28,13 +28,13 @@ writing-start file from n out =
 module _ {file : List ℕ} {from n : ℕ} {out₀ out : List ℕ} {at i : ℕ} (v : Writing file from n out₀ out at i) where
   -- the next record is written
   pub writing-more : {out′ : List ℕ} → i < n → out′ ≡ withItem out i (recordAt file at) → Writing file from n out₀ out′ (at + recordSize) (i + 1)
-  unfolding recordsFrom putAll
+  unfolding recordsFrom
   writing-more h e =
       let more : n - i ≡ suc (n - (i + 1)) = omega arith in
       record {
         within = omega arith;
         place = omega (arith, v .place);
-        left = left-put (v .left) (recordAt file at ∷ []) (recordsFrom file (at + recordSize) (n - (i + 1))) (rw more) record { count = refl; words = e };
+        left = left-one (v .left) (rw more) e;
       }
 
   -- nothing is left

@@ -111,12 +111,12 @@ abbrev pub partsOf : List ℕ → FileParts
 partsOf file = record { pool = poolLength file; ours = oursCount file; theirs = theirsCount file }
 
 -- 01 no.6, refusal.2: the result needs more room than lent; room gives 0 and 0
-abbrev pub roomVerdict : FileParts → List ℕ → List ℕ → Verdict
-roomVerdict p ours theirs = cond (passes (p .ours) ours || passes (p .theirs) theirs) (refused 6 0 0) accepted
+abbrev pub fileRoomVerdict : FileParts → List ℕ → List ℕ → Verdict
+fileRoomVerdict p ours theirs = cond (passes (p .ours) ours || passes (p .theirs) theirs) (refused 6 0 0) accepted
 
-abbrev pub roomAnswer : List ℕ → List ℕ → List ℕ → Answer FileParts
-roomAnswer file ours theirs = andThen (roomVerdict (partsOf file) ours theirs) (answered (partsOf file))
+abbrev pub fileRoomAnswer : List ℕ → List ℕ → List ℕ → Answer FileParts
+fileRoomAnswer file ours theirs = andThen (fileRoomVerdict (partsOf file) ours theirs) (answered (partsOf file))
 
 -- 01 refusal.6: 10 first, 6 last
 abbrev pub fileAnswer : List ℕ → List ℕ → List ℕ → Answer FileParts
-fileAnswer file ours theirs = andThen (fileVerdict file) (roomAnswer file ours theirs)
+fileAnswer file ours theirs = andThen (fileVerdict file) (fileRoomAnswer file ours theirs)

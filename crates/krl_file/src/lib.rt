@@ -7,10 +7,14 @@ ghost use Prim.Native.Nat.{_+_, _*_, _/_, _<_, _≤_};
 ghost use lib.ListN.{length};
 ghost use Rattle.query_item.specs.Items.{itemSize};
 ghost use Rattle.item_lists.specs.Written.{laidOver, written};
-ghost use Rattle.krl_file.specs.File.{recordSize, mostFile, byteAt, u16At, hasMark, hasVersion, poolLength, oursCount, theirsCount, wholeSize, wellFormed, poolOf, recordAt, recordsFrom, oursOf, theirsOf, fileAnswerOf, partsOf, roomAnswer, fileAnswer};
+ghost use Rattle.krl_file.specs.File.{recordSize, mostFile, byteAt, u16At, hasMark, hasVersion, poolLength, oursCount, theirsCount, wholeSize, wellFormed};
+ghost use Rattle.krl_file.specs.File.{poolOf, recordAt, recordsFrom, oursOf, theirsOf, fileAnswerOf, partsOf, fileRoomAnswer, fileAnswer};
 use item_check::Refusal;
+use item_check::refusal_of;
 use item_lists::passes_room;
+use item_words::make_item;
 use item_words::write_item;
+use key_order::wide_u32;
 use query_item::ItemWords;
 use query_item::KeyAt;
 use query_item::pooled::key_bytes;
@@ -44,11 +48,7 @@ pub fn read_file(file: &[u8], ours: &mut [u32], theirs: &mut [u32]) -> FileAnswe
     if is_well_formed(file) {
         return read_lists(file, ours, theirs);
     }
-    FileAnswer::Refused(Refusal {
-        number: 10,
-        side: 0,
-        index: 0,
-    })
+    FileAnswer::Refused(refusal_of(10, 0, 0))
 }
 
 // The pool of a file: the part from HEAD_SIZE on, of the pool's length; of a file that ends before it does, what is there (01 m7.1).
@@ -67,17 +67,13 @@ pub fn pool_of(file: &[u8]) -> &[u8]
 // The room of the two lists, known before anything is written; then the lists.
 fn read_lists(file: &[u8], ours: &mut [u32], theirs: &mut [u32]) -> FileAnswer
     requires { ⌜ wellFormed (now file) ≡ true ⌝ }
-    ensures { λ r. ⌜ fileAnswerOf r ≡ roomAnswer (now (file .entry)) (now (ours .entry)) (now (theirs .entry)) ⌝ }
-    ensures { λ _. ⌜ now (ours .exit) ≡ written (roomAnswer (now (file .entry)) (now (ours .entry)) (now (theirs .entry))) (oursOf (now (file .entry))) (now (ours .entry)) ⌝ }
-    ensures { λ _. ⌜ now (theirs .exit) ≡ written (roomAnswer (now (file .entry)) (now (ours .entry)) (now (theirs .entry))) (theirsOf (now (file .entry))) (now (theirs .entry)) ⌝ }
+    ensures { λ r. ⌜ fileAnswerOf r ≡ fileRoomAnswer (now (file .entry)) (now (ours .entry)) (now (theirs .entry)) ⌝ }
+    ensures { λ _. ⌜ now (ours .exit) ≡ written (fileRoomAnswer (now (file .entry)) (now (ours .entry)) (now (theirs .entry))) (oursOf (now (file .entry))) (now (ours .entry)) ⌝ }
+    ensures { λ _. ⌜ now (theirs .exit) ≡ written (fileRoomAnswer (now (file .entry)) (now (ours .entry)) (now (theirs .entry))) (theirsOf (now (file .entry))) (now (theirs .entry)) ⌝ }
 {
     let p = parts_of(file);
     if passes_room(p.ours, ours) | passes_room(p.theirs, theirs) {
-        return FileAnswer::Refused(Refusal {
-            number: 6,
-            side: 0,
-            index: 0,
-        });
+        return FileAnswer::Refused(refusal_of(6, 0, 0));
     }
     let at = HEAD_SIZE + p.pool;
     write_records(file, at, p.ours, ours);
@@ -172,12 +168,7 @@ fn record_at(file: &[u8], at: usize) -> ItemWords
         offset: u16_at(file, at + 5),
         length: byte_at(file, at + 7),
     };
-    ItemWords {
-        code: byte_at(file, at),
-        wrapper: byte_at(file, at + 1),
-        start,
-        end,
-    }
+    make_item(byte_at(file, at), byte_at(file, at + 1), start, end)
 }
 
 // A big-endian u16.
@@ -194,13 +185,7 @@ fn byte_at(file: &[u8], i: usize) -> u32
     ensures { λ r. ⌜ (r ≡ byteAt (now (file .entry)) i) × (r < 256) ⌝ }
 {
     if i < file.len() {
-        return wide(file[i]);
+        return wide_u32(file[i]);
     }
     0
-}
-
-fn wide(x: u8) -> u32
-    ensures { λ r. ⌜ (r ≡ x) × (r < 256) ⌝ }
-{
-    x as u32
 }

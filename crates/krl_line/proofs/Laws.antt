@@ -7,6 +7,7 @@ use lib.ListN.{length, length-append}
 use lib.Dec.{eqb}
 use Rattle.lent_text.specs.Text.{spacedNumber}
 use Rattle.lent_text.proofs.Laws.{decimal-few}
+use Rattle.item_check.specs.declared.Refusal.{Refusal}
 use Rattle.krl_line.specs.Lines.{lineFeed, oursWord, theirsWord, refusedWord, sideText, placeText, refusalLine}
 
 side-few : (side : ℕ) → length (sideText side) ≤ 7
@@ -26,13 +27,14 @@ place-few number side index = go (eqb number 6 || eqb number 10)
     go false = omega (arith, length-append (sideText side) (spacedNumber index), side-few side, decimal-few index)
 
 -- no line of a refusal is longer than 57 bytes
-pub refusal-few : (number side index : ℕ) → length (refusalLine number side index) ≤ 57
-refusal-few number side index =
+pub refusal-few : (r : Refusal) → length (refusalLine r) ≤ 57
+refusal-few r =
+    let place = placeText (r .number) (r .side) (r .index) in
     omega (
       arith,
-      length-append refusedWord (spacedNumber number ++ (placeText number side index ++ lineFeed)),
-      length-append (spacedNumber number) (placeText number side index ++ lineFeed),
-      length-append (placeText number side index) lineFeed,
-      decimal-few number,
-      place-few number side index,
+      length-append refusedWord (spacedNumber (r .number) ++ (place ++ lineFeed)),
+      length-append (spacedNumber (r .number)) (place ++ lineFeed),
+      length-append place lineFeed,
+      decimal-few (r .number),
+      place-few (r .number) (r .side) (r .index),
     )

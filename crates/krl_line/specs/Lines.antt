@@ -6,6 +6,7 @@ use mathlib.Core.List.{List, [], _∷_, _++_}
 use lib.ListN.{length}
 use lib.Dec.{eqb}
 use Rattle.lent_text.specs.Text.{spacedNumber, stored}
+use Rattle.item_check.specs.declared.Refusal.{Refusal}
 
 -- 01 m7.7: every line ends in one line feed
 abbrev pub lineFeed : List ℕ
@@ -36,8 +37,8 @@ unfoldable pub placeText : ℕ → ℕ → ℕ → List ℕ
 placeText number side index = cond (eqb number 6 || eqb number 10) [] (sideText side ++ spacedNumber index)
 
 -- 01 m7.6: a refusal writes one line, with side and index
-abbrev pub refusalLine : ℕ → ℕ → ℕ → List ℕ
-refusalLine number side index = refusedWord ++ (spacedNumber number ++ (placeText number side index ++ lineFeed))
+abbrev pub refusalLine : Refusal → List ℕ
+refusalLine r = refusedWord ++ (spacedNumber (r .number) ++ (placeText (r .number) (r .side) (r .index) ++ lineFeed))
 
 -- ---- a text at the front of lent bytes. No promise of a public call cites this (01 m7.7)
 

@@ -15,7 +15,7 @@ use lent_text::put_text;
 
 // inner: writes the line of a refusal to the front of lent bytes, and answers how many bytes it has (01 m7.6).
 pub fn refusal_line(out: &mut [u8], refusal: Refusal) -> usize
-    ensures { λ r. ⌜ PutFront (now (out .entry)) (refusalLine (refusal .number) (refusal .side) (refusal .index)) r (now (out .exit)) ⌝ }
+    ensures { λ r. ⌜ PutFront (now (out .entry)) (refusalLine refusal) r (now (out .exit)) ⌝ }
 {
     let number = refusal.number;
     let a = put_text(out, 0, b"refused", true);

@@ -71,25 +71,25 @@ module _ (pool title ws : List ℕ) (n : ℕ) where
 
 -- ---- the lines of the listing, by index
 
-module _ (pool both mine yours : List ℕ) (n : ManyCounts) (i : ℕ) where
-  pub line-shared : i ≤ n .«in_both» → lineAt pool both mine yours n i ≡ getD (listLines pool sharedWord (itemsFrom both 0 (n .«in_both»))) i []
+module _ (pool sharedOut oursOut theirsOut : List ℕ) (n : ManyCounts) (i : ℕ) where
+  pub line-shared : i ≤ n .shared → lineAt pool sharedOut oursOut theirsOut n i ≡ getD (listLines pool sharedWord (itemsFrom sharedOut 0 (n .shared))) i []
   unfolding lineAt listingLines
-  line-shared h = line-own pool sharedWord both (n .«in_both») _ i h
+  line-shared h = line-own pool sharedWord sharedOut (n .shared) _ i h
 
-  line-not-shared : n .«in_both» < i
-      → lineAt pool both mine yours n i
-      ≡ getD (listLines pool oursWord (itemsFrom mine 0 (n .ours)) ++ listLines pool theirsWord (itemsFrom yours 0 (n .theirs))) (i - n .«in_both» - 1) []
+  line-not-shared : n .shared < i
+      → lineAt pool sharedOut oursOut theirsOut n i
+      ≡ getD (listLines pool oursWord (itemsFrom oursOut 0 (n .ours)) ++ listLines pool theirsWord (itemsFrom theirsOut 0 (n .theirs))) (i - n .shared - 1) []
   unfolding lineAt listingLines
-  line-not-shared h = line-behind pool sharedWord both (n .«in_both») _ i h
+  line-not-shared h = line-behind pool sharedWord sharedOut (n .shared) _ i h
 
-  pub line-ours : n .«in_both» < i → i - n .«in_both» - 1 ≤ n .ours
-      → lineAt pool both mine yours n i ≡ getD (listLines pool oursWord (itemsFrom mine 0 (n .ours))) (i - n .«in_both» - 1) []
-  line-ours h k = line-not-shared h ∙ line-own pool oursWord mine (n .ours) _ (i - n .«in_both» - 1) k
+  pub line-ours : n .shared < i → i - n .shared - 1 ≤ n .ours
+      → lineAt pool sharedOut oursOut theirsOut n i ≡ getD (listLines pool oursWord (itemsFrom oursOut 0 (n .ours))) (i - n .shared - 1) []
+  line-ours h k = line-not-shared h ∙ line-own pool oursWord oursOut (n .ours) _ (i - n .shared - 1) k
 
-  pub line-theirs : n .«in_both» < i → n .ours < i - n .«in_both» - 1
-      → lineAt pool both mine yours n i ≡ getD (listLines pool theirsWord (itemsFrom yours 0 (n .theirs))) (i - n .«in_both» - 1 - n .ours - 1) []
-  line-theirs h k = line-not-shared h ∙ line-behind pool oursWord mine (n .ours) _ (i - n .«in_both» - 1) k
+  pub line-theirs : n .shared < i → n .ours < i - n .shared - 1
+      → lineAt pool sharedOut oursOut theirsOut n i ≡ getD (listLines pool theirsWord (itemsFrom theirsOut 0 (n .theirs))) (i - n .shared - 1 - n .ours - 1) []
+  line-theirs h k = line-not-shared h ∙ line-behind pool oursWord oursOut (n .ours) _ (i - n .shared - 1) k
 
-  pub line-none : n .«in_both» < i → n .ours < i - n .«in_both» - 1 → n .theirs < i - n .«in_both» - 1 - n .ours - 1
-      → lineAt pool both mine yours n i ≡ []
-  line-none h k g = line-theirs h k ∙ line-past pool theirsWord yours (n .theirs) (i - n .«in_both» - 1 - n .ours - 1) g
+  pub line-none : n .shared < i → n .ours < i - n .shared - 1 → n .theirs < i - n .shared - 1 - n .ours - 1
+      → lineAt pool sharedOut oursOut theirsOut n i ≡ []
+  line-none h k g = line-theirs h k ∙ line-past pool theirsWord theirsOut (n .theirs) (i - n .shared - 1 - n .ours - 1) g

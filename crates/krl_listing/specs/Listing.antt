@@ -81,17 +81,17 @@ listLines pool title its = titleLine title (length its) ∷ itemLines pool its
 
 -- 01 m7.3, the example: first what is shared, then ours, then theirs
 unfoldable pub listingLines : List ℕ → List ItemWords → List ItemWords → List ItemWords → List (List ℕ)
-listingLines pool both mine yours = listLines pool sharedWord both ++ (listLines pool oursWord mine ++ listLines pool theirsWord yours)
+listingLines pool sharedOut oursOut theirsOut = listLines pool sharedWord sharedOut ++ (listLines pool oursWord oursOut ++ listLines pool theirsWord theirsOut)
 
 -- 01 m7.7: the program writes the lines one after the other
-unfoldable pub joined : List (List ℕ) → List ℕ
-joined [] = []
-joined (l ∷ ls) = l ++ joined ls
+unfoldable pub textOfLines : List (List ℕ) → List ℕ
+textOfLines [] = []
+textOfLines (l ∷ ls) = l ++ textOfLines ls
 
 -- 01 m7.3: the line at an index, of lists of words and their counts; past the last line there are no bytes
 unfoldable pub lineAt : List ℕ → List ℕ → List ℕ → List ℕ → ManyCounts → ℕ → List ℕ
-lineAt pool both mine yours n i =
-    getD (listingLines pool (itemsFrom both 0 (n .«in_both»)) (itemsFrom mine 0 (n .ours)) (itemsFrom yours 0 (n .theirs))) i []
+lineAt pool sharedOut oursOut theirsOut n i =
+    getD (listingLines pool (itemsFrom sharedOut 0 (n .shared)) (itemsFrom oursOut 0 (n .ours)) (itemsFrom theirsOut 0 (n .theirs))) i []
 
 -- 01 m7.4, no.2: the longest line of items with keys of at most 255 bytes: RangeAfterToInclusive with two of them
 abbrev pub mostLine : ℕ

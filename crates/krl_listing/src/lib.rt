@@ -26,27 +26,28 @@ pub const MAX_LINE: usize = 1044;
 pub fn listing_line(
     out: &mut [u8],
     pool: &[u8],
-    both: &[u32],
-    mine: &[u32],
-    yours: &[u32],
+    shared_out: &[u32],
+    ours_out: &[u32],
+    theirs_out: &[u32],
     counts: ManyCounts,
     i: usize,
 ) -> usize
-    ensures { λ r. ⌜ PutFront (now (out .entry)) (lineAt (now (pool .entry)) (now (both .entry)) (now (mine .entry)) (now (yours .entry)) counts i) r (now (out .exit)) ⌝ }
+    ensures { λ r. ⌜ PutFront (now (out .entry))
+        (lineAt (now (pool .entry)) (now («shared_out» .entry)) (now («ours_out» .entry)) (now («theirs_out» .entry)) counts i) r (now (out .exit)) ⌝ }
 {
-    let shared = counts.in_both;
+    let shared = counts.shared;
     if i <= shared {
-        return put_of_list(out, pool, b"shared", both, shared, i);
+        return put_of_list(out, pool, b"shared", shared_out, shared, i);
     }
     let later = i - shared - 1;
     let ours = counts.ours;
     if later <= ours {
-        return put_of_list(out, pool, b"ours", mine, ours, later);
+        return put_of_list(out, pool, b"ours", ours_out, ours, later);
     }
     let last = later - ours - 1;
     let theirs = counts.theirs;
     if last <= theirs {
-        return put_of_list(out, pool, b"theirs", yours, theirs, last);
+        return put_of_list(out, pool, b"theirs", theirs_out, theirs, last);
     }
     0
 }

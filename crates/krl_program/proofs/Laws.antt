@@ -1,28 +1,26 @@
 -- The steps of the program: what deciding a file leaves in the lists, and that every line of the answer is there, no longer than the longest.
 -- Assumes nothing.
-use Prim.Native.Nat.{ℕ, zero, suc, _*_, _≤_}
+use Prim.Native.Nat.{ℕ, zero, suc, _+_, _*_, _≤_}
 use mathlib.Core.Path.{_≡_, refl, sym, ap, _∙_}
 use mathlib.Core.List.{List, [], _∷_}
 use native.Mathlib.Omega.{arith}
 use lib.ListN.{length, getD, take, drop}
-use lib.Seq.{take-at, take-append-seam}
+use lib.Seq.{take-append-seam}
+use Rattle.key_order.proofs.Impossible.{impossible}
 use Rattle.intervals.proofs.Laws.{All}
 use Rattle.query_item.specs.declared.ItemWords.{ItemWords}
-use Rattle.query_item.specs.declared.QueryItem.{QueryItem}
-use Rattle.query_item.specs.Items.{itemSize, itemsFrom, flatAll}
+use Rattle.query_item.specs.Items.{itemSize, flatAll}
 use Rattle.item_check.specs.declared.Refusal.{Refusal}
-use Rattle.item_check.specs.Checks.{answered, refusedAs, listVerdict, poolVerdict}
-use Rattle.item_check.proofs.Laws.{AllSound, accepts, accepted-list}
-use Rattle.item_lists.specs.Written.{plain, laidOver, written}
-use Rattle.item_lists.proofs.Written.{length-flat}
-use Rattle.item_lists.proofs.Read.{items-read}
+use Rattle.item_check.specs.Checks.{answered, refusedAs}
+use Rattle.item_check.proofs.Laws.{AllSound}
+use Rattle.item_lists.specs.Lists.{Accepted}
+use Rattle.item_lists.specs.Written.{written}
+use Rattle.item_lists.proofs.Accepted.{list-of}
+use Rattle.item_lists.proofs.Read.{items-flat, items-laid, front-laid}
 use Rattle.intersect_many.specs.declared.ManyCounts.{ManyCounts}
 use Rattle.intersect_many.specs.declared.ManyAnswer.{ManyAnswer}
 use Rattle.intersect_many.specs.declared.ManyAnswer.the-variants.{Counts, Refused}
-use Rattle.intersect_many.specs.Lists.{sharedItems, onlyItems, wordsAll, manyOf, manyAnswer}
-use Rattle.intersect_many.specs.Demand.{Accepted}
-use Rattle.intersect_many.proofs.Written.{length-plain}
-use Rattle.intersect_many.proofs.Listed.{items-of-words}
+use Rattle.intersect_many.specs.Lists.{sharedItems, onlyItems, manyOf, manyAnswer, IntersectMany}
 use Rattle.intersect_many.proofs.Demands.{shared-accepted, without-accepted}
 use Rattle.krl_file.specs.declared.FileParts.{FileParts}
 use Rattle.krl_file.specs.File.{poolOf, oursOf, theirsOf, fileAnswer}
@@ -32,15 +30,11 @@ use Rattle.krl_line.specs.Lines.{refusalLine, PutFront}
 use Rattle.krl_line.proofs.Laws.{refusal-few}
 use Rattle.krl_listing.specs.Listing.{lineAt, mostLine}
 use Rattle.krl_listing.proofs.Laws.{ShortKeys, Short, length-listing-lines, lines-few, sound-short}
-use Rattle.krl_program.specs.Program.{ourWords, theirWords, fileLines, programAnswer, programLines}
+use Rattle.krl_program.specs.Program.{ourWords, theirWords, listRoom, fileLines, programAnswer, programLines}
 use Rattle.krl_program.specs.Decided.{Rooms, Listed, Decided, linesOf, Asked, Given}
 use Rattle.krl_program.proofs.Answered.{answered→lists, file-refused, many-is-program}
 
 -- ---- the file's lists
-
--- the words of the first items, where items are laid over a list
-front-laid : (out : List ℕ) (its : List ItemWords) (n : ℕ) → length its ≡ n → take (itemSize * n) (laidOver out its) ≡ flatAll its
-front-laid out its n e = take-at (flatAll its) (drop (length (flatAll its)) out) (itemSize * n) (length-flat its ∙ ap (λ (m : ℕ). itemSize * m) e)
 
 -- of a file that is read to two lists: their records fit, and are the file's two lists
 module _ (file ours theirs : List ℕ) (p : FileParts) (e : fileAnswer file ours theirs ≡ answered p) where
@@ -59,40 +53,36 @@ module _ (file ours theirs : List ℕ) (p : FileParts) (e : fileAnswer file ours
   pub theirs-are : (theirs′ : List ℕ) → theirs′ ≡ written (fileAnswer file ours theirs) (theirsOf file) theirs → take (itemSize * p .theirs) theirs′ ≡ theirWords file
   theirs-are theirs′ is = rw (is, e) (front-laid theirs (theirsOf file) (p .theirs) (length-theirs file ∙ sym (ap (λ (q : FileParts). q .theirs) (read .parts))))
 
--- items that are laid over a list are read back
-laid-back : (out : List ℕ) (Q : List QueryItem) (n : ℕ) → n ≡ length Q → itemsFrom (laidOver out (plain Q)) 0 n ≡ plain Q
-laid-back out Q n e =
-    rw (e, ← length-plain Q) (items-read (plain Q) [] (drop (length (flatAll (plain Q))) out) 0 refl)
-
 -- ---- the decision
 
-module _ (file ours theirs both mine yours : List ℕ) (R : Rooms ours theirs both mine yours) where
+module _ (file ours theirs sharedOut oursOut theirsOut : List ℕ) (R : Rooms ours theirs sharedOut oursOut theirsOut) where
   -- a file that is refused has no lists
-  pub decided-refused : (r : Refusal) → fileAnswer file ours theirs ≡ refusedAs r → Decided file both mine yours (Refused r)
+  pub decided-refused : (r : Refusal) → fileAnswer file ours theirs ≡ refusedAs r → Decided file sharedOut oursOut theirsOut (Refused r)
   decided-refused r e = record {
-    answer = sym (file-refused file ours theirs both mine yours R (r .number) (r .side) (r .index) e);
-    lists = λ c h. absurd (let z : _≡_ {A = ℕ} 0 1 = cc in omega arith);
+    answer = sym (file-refused file ours theirs sharedOut oursOut theirsOut R r e);
+    lists = λ c h. impossible cc;
   }
 
   -- a file that is read to two lists has the lists of these
   pub decided-read : (p : FileParts) → fileAnswer file ours theirs ≡ answered p
       → (pool A B : List ℕ) → pool ≡ poolOf file → A ≡ ourWords file → B ≡ theirWords file
-      → (r : ManyAnswer) (both′ mine′ yours′ : List ℕ) → manyOf r ≡ manyAnswer pool A B both mine yours
-      → both′ ≡ written (manyAnswer pool A B both mine yours) (plain (sharedItems pool A B)) both
-      → mine′ ≡ written (manyAnswer pool A B both mine yours) (plain (onlyItems pool A B)) mine
-      → yours′ ≡ written (manyAnswer pool A B both mine yours) (plain (onlyItems pool B A)) yours
-      → Decided file both′ mine′ yours′ r
-  decided-read p e pool A B is-pool is-A is-B r both′ mine′ yours′ said s o t =
-      let is : manyOf r ≡ programAnswer file = said ∙ rw (is-pool, is-A, is-B) (many-is-program file ours theirs both mine yours R p e) in
-      record { answer = is; lists = λ c h. listed c (sym is ∙ h) (sym said ∙ h) }
+      → (r : ManyAnswer) (sharedOut′ oursOut′ theirsOut′ : List ℕ)
+      → IntersectMany pool A B sharedOut oursOut theirsOut (manyOf r) sharedOut′ oursOut′ theirsOut′ → Decided file sharedOut′ oursOut′ theirsOut′ r
+  decided-read p e pool A B is-pool is-A is-B r sharedOut′ oursOut′ theirsOut′ F =
+      let is : manyOf r ≡ programAnswer file = F .told ∙ rw (is-pool, is-A, is-B) (many-is-program file ours theirs sharedOut oursOut theirsOut R p e) in
+      record { answer = is; lists = λ c h. listed c (sym is ∙ h) (sym (F .told) ∙ h) }
     where
-      listed : (c : ManyCounts) → programAnswer file ≡ answered c → manyAnswer pool A B both mine yours ≡ answered c → Listed file both′ mine′ yours′ c
+      listed : (c : ManyCounts) → programAnswer file ≡ answered c → manyAnswer pool A B sharedOut oursOut theirsOut ≡ answered c
+          → Listed file sharedOut′ oursOut′ theirsOut′ c
       listed c h k =
-          let n = answered→lists file c h .counts in
+          let n = sym (answered→lists file c h .counts) in
+          let P = poolOf file in
+          let O = ourWords file in
+          let T = theirWords file in
           record {
-            shared = rw (s, k, is-pool, is-A, is-B) (laid-back both (sharedItems (poolOf file) (ourWords file) (theirWords file)) (c .«in_both») (ap (λ (x : ManyCounts). x .«in_both») n));
-            our-only = rw (o, k, is-pool, is-A, is-B) (laid-back mine (onlyItems (poolOf file) (ourWords file) (theirWords file)) (c .ours) (ap (λ (x : ManyCounts). x .ours) n));
-            their-only = rw (t, k, is-pool, is-A, is-B) (laid-back yours (onlyItems (poolOf file) (theirWords file) (ourWords file)) (c .theirs) (ap (λ (x : ManyCounts). x .theirs) n));
+            shared = rw (F .shared, k, is-pool, is-A, is-B) (items-laid sharedOut (sharedItems P O T) (c .shared) (ap (λ (x : ManyCounts). x .shared) n));
+            ours-only = rw (F .ours-only, k, is-pool, is-A, is-B) (items-laid oursOut (onlyItems P O T) (c .ours) (ap (λ (x : ManyCounts). x .ours) n));
+            theirs-only = rw (F .theirs-only, k, is-pool, is-A, is-B) (items-laid theirsOut (onlyItems P T O) (c .theirs) (ap (λ (x : ManyCounts). x .theirs) n));
           }
 
 -- ---- the lines
@@ -102,10 +92,8 @@ all-short : (pool : List ℕ) (its : List ItemWords) → AllSound pool its → A
 all-short pool [] h = tt
 all-short pool (it ∷ its) h = (sound-short pool it (h .0), all-short pool its (h .1))
 
-words-short : (pool : List ℕ) (Q : List QueryItem) → Accepted pool (wordsAll Q) → All ShortKeys (plain Q)
-words-short pool Q a =
-    all-short pool (plain Q)
-    (rw (items-of-words Q) at (accepted-list pool 0 (wordsAll Q) .0 (accepts (poolVerdict pool) (listVerdict pool (wordsAll Q) 0) .0 a .1) .sound))
+words-short : (pool : List ℕ) (its : List ItemWords) → Accepted pool (flatAll its) → All ShortKeys its
+words-short pool its a = all-short pool its (rw (items-flat its) at (list-of pool (flatAll its) a .sound))
 
 all-at : (ls : List (List ℕ)) → All Short ls → (i : ℕ) → length (getD ls i []) ≤ mostLine
 all-at [] h i = omega arith
@@ -120,7 +108,7 @@ listing-short file c e =
     let A = ourWords file in
     let B = theirWords file in
     let n = v .counts in
-    lines-few pool (plain (sharedItems pool A B)) (plain (onlyItems pool A B)) (plain (onlyItems pool B A))
+    lines-few pool (sharedItems pool A B) (onlyItems pool A B) (onlyItems pool B A)
     (words-short pool (sharedItems pool A B) (shared-accepted pool A B (v .ours) (v .theirs) (rw n at (v .few-shared))))
     (words-short pool (onlyItems pool A B) (without-accepted pool A B (v .ours) (v .theirs) (rw n at (v .few-ours))))
     (words-short pool (onlyItems pool B A) (without-accepted pool B A (v .theirs) (v .ours) (rw n at (v .few-theirs))))
@@ -133,17 +121,17 @@ put-given file line line′ text i n room short put same is = record {
   within = omega (arith, put .0, same);
 }
 
-module _ (file both mine yours : List ℕ) where
-  lines-listed : (c : ManyCounts) → Decided file both mine yours (Counts c) → programLines file ≡ fileLines file
+module _ (file sharedOut oursOut theirsOut : List ℕ) where
+  lines-listed : (c : ManyCounts) → Decided file sharedOut oursOut theirsOut (Counts c) → programLines file ≡ fileLines file
   unfolding programLines
   lines-listed c d = rw (← d .answer)
 
-  lines-refused : (r : Refusal) → Decided file both mine yours (Refused r) → programLines file ≡ refusalLine (r .number) (r .side) (r .index) ∷ []
+  lines-refused : (r : Refusal) → Decided file sharedOut oursOut theirsOut (Refused r) → programLines file ≡ refusalLine r ∷ []
   unfolding programLines
   lines-refused r d = rw (← d .answer)
 
   -- there are as many lines as are asked for
-  pub lines-counted : (r : ManyAnswer) → Decided file both mine yours r → (linesOf r ≡ length (programLines file)) × (linesOf r ≤ 6147)
+  pub lines-counted : (r : ManyAnswer) → Decided file sharedOut oursOut theirsOut r → (linesOf r ≡ length (programLines file)) × (linesOf r ≤ 3 + 3 * listRoom)
   lines-counted (Counts c) d =
       let v = answered→lists file c (sym (d .answer)) in
       let n = v .counts in
@@ -153,11 +141,8 @@ module _ (file both mine yours : List ℕ) where
         rw (lines-listed c d)
             (omega (
               arith,
-              length-listing-lines pool (plain (sharedItems pool A B)) (plain (onlyItems pool A B)) (plain (onlyItems pool B A)),
-              length-plain (sharedItems pool A B),
-              length-plain (onlyItems pool A B),
-              length-plain (onlyItems pool B A),
-              ap (λ (x : ManyCounts). x .«in_both») n,
+              length-listing-lines pool (sharedItems pool A B) (onlyItems pool A B) (onlyItems pool B A),
+              ap (λ (x : ManyCounts). x .shared) n,
               ap (λ (x : ManyCounts). x .ours) n,
               ap (λ (x : ManyCounts). x .theirs) n,
             )),
@@ -166,21 +151,21 @@ module _ (file both mine yours : List ℕ) where
   lines-counted (Refused r) d = (rw (lines-refused r d), omega arith)
 
   -- a line of the listing
-  pub line-listed : (c : ManyCounts) (i : ℕ) (line line′ : List ℕ) (n : ℕ) → Asked file both mine yours (Counts c) i line
-      → PutFront line (lineAt (poolOf file) both mine yours c i) n line′ → length line′ ≡ length line → Given file i line′ n
+  pub line-listed : (c : ManyCounts) (i : ℕ) (line line′ : List ℕ) (n : ℕ) → Asked file sharedOut oursOut theirsOut (Counts c) i line
+      → PutFront line (lineAt (poolOf file) sharedOut oursOut theirsOut c i) n line′ → length line′ ≡ length line → Given file i line′ n
   unfolding lineAt
   line-listed c i line line′ n a put same =
       let l = a .decided .lists c refl in
-      let is : lineAt (poolOf file) both mine yours c i ≡ getD (programLines file) i [] =
-      rw (l .shared, l .our-only, l .their-only, lines-listed c (a .decided)) in
-      put-given file line line′ (lineAt (poolOf file) both mine yours c i) i n (a .room)
+      let is : lineAt (poolOf file) sharedOut oursOut theirsOut c i ≡ getD (programLines file) i [] =
+      rw (l .shared, l .ours-only, l .theirs-only, lines-listed c (a .decided)) in
+      put-given file line line′ (lineAt (poolOf file) sharedOut oursOut theirsOut c i) i n (a .room)
       (rw (is, lines-listed c (a .decided)) (all-at (fileLines file) (listing-short file c (sym (a .decided .answer))) i)) put same is
 
   -- the one line of a refusal
-  pub line-refused : (r : Refusal) (i : ℕ) (line line′ : List ℕ) (n : ℕ) → Asked file both mine yours (Refused r) i line
-      → PutFront line (refusalLine (r .number) (r .side) (r .index)) n line′ → length line′ ≡ length line → Given file i line′ n
+  pub line-refused : (r : Refusal) (i : ℕ) (line line′ : List ℕ) (n : ℕ) → Asked file sharedOut oursOut theirsOut (Refused r) i line
+      → PutFront line (refusalLine r) n line′ → length line′ ≡ length line → Given file i line′ n
   line-refused r i line line′ n a put same =
-      let text = refusalLine (r .number) (r .side) (r .index) in
+      let text = refusalLine r in
       let e = lines-refused r (a .decided) in
       let first : i ≡ 0 = omega (arith, a .there, ap length e) in
-      put-given file line line′ text i n (a .room) (omega (arith, refusal-few (r .number) (r .side) (r .index))) put same (rw (first, e))
+      put-given file line line′ text i n (a .room) (omega (arith, refusal-few r)) put same (rw (first, e))

@@ -6,7 +6,6 @@ use mathlib.Core.List.{List, []}
 use lib.ListN.{length, getD, take}
 use Rattle.query_item.specs.Items.{itemSize, itemsFrom}
 use Rattle.item_check.specs.Checks.{answered}
-use Rattle.item_lists.specs.Written.{plain}
 use Rattle.intersect_many.specs.declared.ManyCounts.{ManyCounts}
 use Rattle.intersect_many.specs.declared.ManyAnswer.{ManyAnswer}
 use Rattle.intersect_many.specs.declared.ManyAnswer.the-variants.{Counts, Refused}
@@ -29,32 +28,32 @@ Within Failed file = Unit {0}
 abbrev pub mostRecords : ℕ
 mostRecords = 8190
 
-pub record Rooms (ours theirs both mine yours : List ℕ) : Type 0 where
+pub record Rooms (ours theirs sharedOut oursOut theirsOut : List ℕ) : Type 0 where
   pub our-records : length ours ≡ itemSize * mostRecords
   pub their-records : length theirs ≡ itemSize * mostRecords
-  pub shared : length both ≡ itemSize * listRoom
-  pub our-only : length mine ≡ itemSize * listRoom
-  pub their-only : length yours ≡ itemSize * listRoom
+  pub shared : length sharedOut ≡ itemSize * listRoom
+  pub ours-only : length oursOut ≡ itemSize * listRoom
+  pub theirs-only : length theirsOut ≡ itemSize * listRoom
 
 -- three lists begin with the items that a file's listing has
-pub record Listed (file both mine yours : List ℕ) (c : ManyCounts) : Type 0 where
-  pub shared : itemsFrom both 0 (c .«in_both») ≡ plain (sharedItems (poolOf file) (ourWords file) (theirWords file))
-  pub our-only : itemsFrom mine 0 (c .ours) ≡ plain (onlyItems (poolOf file) (ourWords file) (theirWords file))
-  pub their-only : itemsFrom yours 0 (c .theirs) ≡ plain (onlyItems (poolOf file) (theirWords file) (ourWords file))
+pub record Listed (file sharedOut oursOut theirsOut : List ℕ) (c : ManyCounts) : Type 0 where
+  pub shared : itemsFrom sharedOut 0 (c .shared) ≡ sharedItems (poolOf file) (ourWords file) (theirWords file)
+  pub ours-only : itemsFrom oursOut 0 (c .ours) ≡ onlyItems (poolOf file) (ourWords file) (theirWords file)
+  pub theirs-only : itemsFrom theirsOut 0 (c .theirs) ≡ onlyItems (poolOf file) (theirWords file) (ourWords file)
 
 -- what a file is answered is known, and where it is no refusal, the lists are its lists
-pub record Decided (file both mine yours : List ℕ) (r : ManyAnswer) : Type 0 where
+pub record Decided (file sharedOut oursOut theirsOut : List ℕ) (r : ManyAnswer) : Type 0 where
   pub answer : manyOf r ≡ programAnswer file
-  pub lists : (c : ManyCounts) → manyOf r ≡ answered c → Listed file both mine yours c
+  pub lists : (c : ManyCounts) → manyOf r ≡ answered c → Listed file sharedOut oursOut theirsOut c
 
 -- how many lines an answer has
 abbrev pub linesOf : ManyAnswer → ℕ
-linesOf (Counts c) = 3 + c .«in_both» + c .ours + c .theirs
+linesOf (Counts c) = 3 + c .shared + c .ours + c .theirs
 linesOf (Refused r) = 1
 
 -- the lines of a decided file can be asked for: there is such a line, and lent bytes for the longest
-pub record Asked (file both mine yours : List ℕ) (r : ManyAnswer) (i : ℕ) (line : List ℕ) : Type 0 where
-  pub decided : Decided file both mine yours r
+pub record Asked (file sharedOut oursOut theirsOut : List ℕ) (r : ManyAnswer) (i : ℕ) (line : List ℕ) : Type 0 where
+  pub decided : Decided file sharedOut oursOut theirsOut r
   pub there : i < length (programLines file)
   pub room : mostLine ≤ length line
 

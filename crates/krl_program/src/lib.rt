@@ -74,16 +74,16 @@ fn read_all(input: i32, file: &mut [u8]) -> Input
 fn write_answer(file: &[u8]) {
     let mut our_room = records_room();
     let mut their_room = records_room();
-    let mut both_room = list_room();
-    let mut mine_room = list_room();
-    let mut yours_room = list_room();
+    let mut shared_out_room = list_room();
+    let mut ours_out_room = list_room();
+    let mut theirs_out_room = list_room();
     let ours: &mut [u32] = &mut our_room;
     let theirs: &mut [u32] = &mut their_room;
-    let both: &mut [u32] = &mut both_room;
-    let mine: &mut [u32] = &mut mine_room;
-    let yours: &mut [u32] = &mut yours_room;
-    let answer = decide(file, ours, theirs, both, mine, yours);
-    match write_lines(file, both, mine, yours, answer) {
+    let shared_out: &mut [u32] = &mut shared_out_room;
+    let ours_out: &mut [u32] = &mut ours_out_room;
+    let theirs_out: &mut [u32] = &mut theirs_out_room;
+    let answer = decide(file, ours, theirs, shared_out, ours_out, theirs_out);
+    match write_lines(file, shared_out, ours_out, theirs_out, answer) {
         Output::Failed => os::fail(b"krl: standard output"),
         Output::Lines(_) => {}
     }
@@ -112,21 +112,21 @@ fn decide(
     file: &[u8],
     ours: &mut [u32],
     theirs: &mut [u32],
-    both: &mut [u32],
-    mine: &mut [u32],
-    yours: &mut [u32],
+    shared_out: &mut [u32],
+    ours_out: &mut [u32],
+    theirs_out: &mut [u32],
 ) -> ManyAnswer
-    requires { ⌜ Rooms (now ours) (now theirs) (now both) (now mine) (now yours) ⌝ }
-    ensures { λ r. ⌜ Decided (now (file .entry)) (now (both .exit)) (now (mine .exit)) (now (yours .exit)) r ⌝ }
+    requires { ⌜ Rooms (now ours) (now theirs) (now «shared_out») (now «ours_out») (now «theirs_out») ⌝ }
+    ensures { λ r. ⌜ Decided (now (file .entry)) (now («shared_out» .exit)) (now («ours_out» .exit)) (now («theirs_out» .exit)) r ⌝ }
 {
     match read_file(file, ours, theirs) {
         FileAnswer::Read(parts) => intersect_many_ordered(
             pool_of(file),
             front(ours, parts.ours),
             front(theirs, parts.theirs),
-            both,
-            mine,
-            yours,
+            shared_out,
+            ours_out,
+            theirs_out,
         ),
         FileAnswer::Refused(refusal) => ManyAnswer::Refused(refusal),
     }
@@ -142,8 +142,14 @@ fn front(words: &[u32], count: usize) -> &[u32]
 }
 
 // Asks for line after line of an answer and writes it, to the last one or to one that cannot be written.
-fn write_lines(file: &[u8], both: &[u32], mine: &[u32], yours: &[u32], answer: ManyAnswer) -> Output
-    requires { ⌜ Decided (now file) (now both) (now mine) (now yours) answer ⌝ }
+fn write_lines(
+    file: &[u8],
+    shared_out: &[u32],
+    ours_out: &[u32],
+    theirs_out: &[u32],
+    answer: ManyAnswer,
+) -> Output
+    requires { ⌜ Decided (now file) (now «shared_out») (now «ours_out») (now «theirs_out») answer ⌝ }
     ensures { λ r. ⌜ AllWritten r (now (file .entry)) ⌝ }
 {
     let mut room = line_room();
@@ -151,7 +157,7 @@ fn write_lines(file: &[u8], both: &[u32], mine: &[u32], yours: &[u32], answer: M
     let lines = count_lines(answer);
     let mut i: usize = 0;
     while i < lines {
-        let n = line_of(file, both, mine, yours, answer, i, line);
+        let n = line_of(file, shared_out, ours_out, theirs_out, answer, i, line);
         if !io::write_all(STDOUT_FILENO, &line[..n]) {
             return Output::Failed;
         }
@@ -161,11 +167,11 @@ fn write_lines(file: &[u8], both: &[u32], mine: &[u32], yours: &[u32], answer: M
 }
 
 fn count_lines(answer: ManyAnswer) -> usize
-    requires { ⌜ linesOf answer ≤ 6147 ⌝ }
+    requires { ⌜ linesOf answer ≤ 3 + 3 * listRoom ⌝ }
     ensures { λ r. ⌜ r ≡ linesOf answer ⌝ }
 {
     match answer {
-        ManyAnswer::Counts(counts) => 3 + counts.in_both + counts.ours + counts.theirs,
+        ManyAnswer::Counts(counts) => 3 + counts.shared + counts.ours + counts.theirs,
         ManyAnswer::Refused(_) => 1,
     }
 }
@@ -173,19 +179,27 @@ fn count_lines(answer: ManyAnswer) -> usize
 // The i-th line of what is written of a file.
 fn line_of(
     file: &[u8],
-    both: &[u32],
-    mine: &[u32],
-    yours: &[u32],
+    shared_out: &[u32],
+    ours_out: &[u32],
+    theirs_out: &[u32],
     answer: ManyAnswer,
     i: usize,
     line: &mut [u8],
 ) -> usize
-    requires { ⌜ Asked (now file) (now both) (now mine) (now yours) answer i (now line) ⌝ }
+    requires { ⌜ Asked (now file) (now «shared_out») (now «ours_out») (now «theirs_out») answer i (now line) ⌝ }
     ensures { λ r. ⌜ Given (now (file .entry)) i (now (line .exit)) r ⌝ }
 {
     match answer {
         ManyAnswer::Counts(counts) => {
-            listing_line(line, pool_of(file), both, mine, yours, counts, i)
+            listing_line(
+                line,
+                pool_of(file),
+                shared_out,
+                ours_out,
+                theirs_out,
+                counts,
+                i,
+            )
         }
         ManyAnswer::Refused(refusal) => refusal_line(line, refusal),
     }

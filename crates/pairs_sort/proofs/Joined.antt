@@ -8,7 +8,7 @@ use native.Mathlib.Omega.{arith}
 use borrow.Author.Tests.{le-leb, lt-leb}
 use Rattle.intervals.specs.Intervals.{Interval, Apart, Canonical, inside, holds, piece}
 use Rattle.intervals.proofs.Members.{inside-past}
-use Rattle.intervals.proofs.Joined.{inside-touch}
+use Rattle.intervals.proofs.Members.{inside-touch}
 use Rattle.intervals.proofs.Laws.{piece-some, piece-none, holds-append, holds-piece}
 use Rattle.pairs_sort.specs.Pairs.{joinedFrom, joined}
 

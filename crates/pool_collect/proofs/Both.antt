@@ -10,7 +10,8 @@ use lib.Seq.{sets, sets-eq, length-sets, drop-at}
 use borrow.Author.Tests.{lt-ltb, le-ltb}
 use Rattle.query_item.specs.declared.ItemWords.{ItemWords}
 use Rattle.query_item.specs.Items.{itemSize, flatAll}
-use Rattle.item_check.specs.Checks.{Verdict, accepted, answered, refused, itemsOf}
+use Rattle.item_check.specs.declared.Refusal.{Refusal}
+use Rattle.item_check.specs.Checks.{Verdict, accepted, answered, refused, refusedAs, itemsOf}
 use Rattle.item_lists.proofs.Written.{sets-append}
 use Rattle.item_lists.proofs.Words.{length-items}
 use Rattle.item_check.proofs.Laws.{words-refused, words-answered}
@@ -169,8 +170,8 @@ module _ (pool fresh ours theirs : List ℕ) where
   kept = keysKept pool ours theirs
 
   -- a refusal leaves what is lent as it was
-  collects-refused : {n s i : ℕ} → collectAnswer pool fresh ours theirs ≡ refused n s i
-      → Collects pool fresh ours theirs (refused n s i) fresh ours theirs
+  collects-refused : {r : Refusal} → collectAnswer pool fresh ours theirs ≡ refusedAs r
+      → Collects pool fresh ours theirs (refusedAs r) fresh ours theirs
   collects-refused e = record {
     answer = sym e;
     bytes = sym (words-refused e fresh _);
@@ -178,8 +179,8 @@ module _ (pool fresh ours theirs : List ℕ) where
     theirs-words = sym (words-refused e theirs _);
   }
 
-  pub collects-unchecked : {v : Verdict} {n s i : ℕ} → v ≡ collectVerdict pool fresh ours theirs → v ≡ refused n s i
-      → Collects pool fresh ours theirs (refused n s i) fresh ours theirs
+  pub collects-unchecked : {v : Verdict} {r : Refusal} → v ≡ collectVerdict pool fresh ours theirs → v ≡ refusedAs r
+      → Collects pool fresh ours theirs (refusedAs r) fresh ours theirs
   collects-unchecked e f = collects-refused (rw (← e, f))
 
   collects-answered : {n : ℕ} → collectAnswer pool fresh ours theirs ≡ answered n → {fresh′ ours′ theirs′ : List ℕ}

@@ -120,7 +120,9 @@ module _ (pool order table : List ℕ) (known used : ℕ) (key : KeyAt) (R : Rea
             table-long = rw (Q .long) (st .table-long);
             indices = indices-more table′ Q;
             used-is = rw (keys, length-packed-one D (bytesOf pool key), length-bytes pool key (R .inside .lies), ← st .used-is);
-            index = rw keys (indexed-more pool T known key D (st .index) p S _ (entryOf used key) (shifted (entryOf used key) table′ Q) new is-filled is-key (entry-new used pool key (R .inside) long ∙ st .used-is));
+            index = rw keys
+                (indexed-more pool T known key D (st .index) p S _ (entryOf used key) (shifted (entryOf used key) table′ Q) new is-filled is-key
+                (entry-new used pool key (R .inside) long ∙ st .used-is));
           };
           keys = keys ∙ sym (add-new D (bytesOf pool key) new);
           few = omega arith;

@@ -2,11 +2,11 @@
 -- what it showed, so that all that goes by what a list shows stays as it was. Assumes nothing.
 use Prim.Native.Nat.{ℕ, _/_, _%_, _≤_}
 use mathlib.Core.Path.{_≡_, refl, ap, _∙_}
-use mathlib.Core.List.{List, [], _++_, map, append-nil}
+use mathlib.Core.List.{List, [], _++_, append-nil}
 use native.Mathlib.Omega.{arith}
 use lib.ListN.{length, length-map}
 use Rattle.query_item.specs.declared.ItemWords.{ItemWords}
-use Rattle.query_item.specs.Items.{itemSize, itemsFrom, flatAll, shown}
+use Rattle.query_item.specs.Items.{itemSize, itemsFrom, flatAll, SameShown}
 use Rattle.item_check.specs.Checks.{accepted, mostItems, itemFault, shapeVerdict, firstBad, itemsOf, listVerdict}
 use Rattle.item_check.proofs.Laws.{All, accepts, items-pass, shape-passes, strict-shown}
 use Rattle.item_lists.proofs.Written.{length-flat}
@@ -66,7 +66,7 @@ module _ (pool : List ℕ) (D : List (List ℕ)) (rest ws : List ℕ) (c : Check
   moved-is = items-rewritten pool D ws (c .whole)
 
   -- it shows what it showed
-  pub kept-shown : map (shown new) (itemsOf (rewritten pool D ws)) ≡ map (shown pool) its
+  pub kept-shown : SameShown new pool (itemsOf (rewritten pool D ws)) its
   kept-shown = rw moved-is (items-shown pool D rest its (c .faultless) k)
 
   -- the algebra accepts it where it did, and refuses it as it did

@@ -9,15 +9,17 @@ use lib.Dec.{ltb}
 use lib.ListN.{length, take, drop, length-append, length-drop, take-append-drop}
 use lib.Seq.{take-at}
 use borrow.Author.Tests.{ltb-false, le-ltb}
+use Rattle.key_order.proofs.Impossible.{impossible}
 use Rattle.query_item.specs.declared.ItemWords.{ItemWords}
-use Rattle.query_item.specs.Items.{itemSize, itemsFrom, queryItem, holds, shown, holdsAny}
+use Rattle.query_item.specs.Items.{itemSize, itemsFrom, queryItem, holds, shown, SameShown}
 use Rattle.query_item.proofs.Laws.{holds-each-shown, holds-any-shown}
-use Rattle.item_check.specs.Checks.{Answer, answered, refused, Verdict, accepted, andThen, poolVerdict, itemsOf, listVerdict}
+use Rattle.item_check.specs.declared.Refusal.{Refusal}
+use Rattle.item_check.specs.Checks.{Answer, answered, refused, refusedAs, Verdict, accepted, andThen, poolVerdict, itemsOf, listVerdict}
 use Rattle.item_check.proofs.Laws.{refused-apart, answers, words-refused, words-answered, pool-passes}
+use Rattle.item_lists.specs.Lists.{listHolds}
 use Rattle.item_lists.proofs.Words.{front-items}
 use Rattle.insert_order.specs.Refusals.{orderedVerdict}
 use Rattle.insert_order.proofs.Accepted.{Ready}
-use Rattle.item_lists.specs.Written.{plain}
 use Rattle.intersect_many.specs.Lists.{sharedItems, onlyItems, manyAnswer}
 use Rattle.intersect_many.specs.Lists as many
 use Rattle.intersect_many.proofs.Shown.{shared-shown, only-shown, many-answer-shown}
@@ -25,8 +27,8 @@ use Rattle.insert.specs.Insertion.{inserted}
 use Rattle.insert.proofs.Laws.{insert-shown}
 use Rattle.pool_collect.specs.declared.Collected.{Collected}
 use Rattle.pool_collect.specs.declared.Collected.the-variants.{Used, Refused}
-use Rattle.pool_collect.specs.Collected.{distinct, packed, together, keysOf, listsVerdict, collectVerdict}
-use Rattle.pool_collect.specs.Collected.{keysKept, roomAnswer, collectAnswer, packedOver, rewritten, collectBytes, collectWords, collectedOf}
+use Rattle.pool_collect.specs.Collected.{distinct, packed, together, keysOf, collectVerdict}
+use Rattle.pool_collect.specs.Collected.{keysKept, poolRoomAnswer, collectAnswer, packedOver, rewritten, collectBytes, collectWords, collectedOf}
 use Rattle.pool_collect.proofs.Kept.{Checks, checks-named, length-rewritten, items-front}
 use Rattle.pool_collect.proofs.Kept.{kept-shown, kept-list, kept-ordered, kept-checks, kept-keys, kept-again}
 use Rattle.pool_collect.proofs.Faults.{admitted}
@@ -52,7 +54,7 @@ collected-apart (Refused r) (Refused s) e = ap Refused (refused-apart r s e)
 -- ---- a call that refuses
 
 -- 01 demand.1: the fresh pool and both lists are as they were
-pub collect-refused : (pool fresh ours theirs : List ℕ) {n s i : ℕ} → collectAnswer pool fresh ours theirs ≡ refused n s i
+pub collect-refused : (pool fresh ours theirs : List ℕ) {r : Refusal} → collectAnswer pool fresh ours theirs ≡ refusedAs r
     → (collectBytes pool fresh ours theirs ≡ fresh) × ((ws : List ℕ) → collectWords pool fresh ours theirs ws ≡ ws)
 collect-refused pool fresh ours theirs e = (words-refused e fresh _, λ ws. words-refused e ws _)
 
@@ -62,8 +64,8 @@ module _ (pool fresh ours theirs : List ℕ) (used : ℕ) (e : collectAnswer poo
   abbrev kept : List (List ℕ)
   kept = keysKept pool ours theirs
 
-  passed : (collectVerdict pool fresh ours theirs ≡ accepted) × (roomAnswer kept fresh ≡ answered used)
-  passed = answers (collectVerdict pool fresh ours theirs) (roomAnswer kept fresh) used e
+  passed : (collectVerdict pool fresh ours theirs ≡ accepted) × (poolRoomAnswer kept fresh ≡ answered used)
+  passed = answers (collectVerdict pool fresh ours theirs) (poolRoomAnswer kept fresh) used e
 
   -- 02 §6.8: the bytes used are those of the distinct keys together, and the fresh pool has room for them
   pub collect-used : (used ≡ together kept) × (used ≤ length fresh)
@@ -71,7 +73,7 @@ module _ (pool fresh ours theirs : List ℕ) (used : ℕ) (e : collectAnswer poo
     where
       go : (t : Bool) → ltb (length fresh) (together kept) ≡ t → _≡_ {A = Answer ℕ} (cond t (refused 6 0 0) (answered (together kept))) (answered used)
           → (used ≡ together kept) × (used ≤ length fresh)
-      go true p q = absurd (let z : _≡_ {A = ℕ} 0 1 = cc in omega arith)
+      go true p q = impossible cc
       go false p q = let u : together kept ≡ used = cc in (sym u, omega (arith, ltb-false (length fresh) (together kept) p))
 
   long : length (packed kept) ≡ used
@@ -121,7 +123,7 @@ module _ (pool fresh ours theirs : List ℕ) (used : ℕ) (e : collectAnswer poo
 
     module _ (ws : List ℕ) (m : OneOf ws) where
       -- 02 §6.5: every item shows what it showed: kind, wrapper and key bytes
-      pub collect-shown : map (shown P) (itemsOf (collectWords pool fresh ours theirs ws)) ≡ map (shown pool) (itemsOf ws)
+      pub collect-shown : SameShown P pool (itemsOf (collectWords pool fresh ours theirs ws)) (itemsOf ws)
       collect-shown = rw (collect-words ws, starts) (kept-shown pool kept rest ws (one-checks ws m) (one-known ws m))
 
       -- so that each item holds what it held, and the list
@@ -129,7 +131,7 @@ module _ (pool fresh ours theirs : List ℕ) (used : ℕ) (e : collectAnswer poo
           → map (λ it. holds P (queryItem it) k) (itemsOf (collectWords pool fresh ours theirs ws)) ≡ map (λ it. holds pool (queryItem it) k) (itemsOf ws)
       collect-each-holds k = holds-each-shown P pool (itemsOf (collectWords pool fresh ours theirs ws)) (itemsOf ws) collect-shown k
 
-      pub collect-holds : (k : List ℕ) → holdsAny P (itemsOf (collectWords pool fresh ours theirs ws)) k ≡ holdsAny pool (itemsOf ws) k
+      pub collect-holds : (k : List ℕ) → listHolds P (collectWords pool fresh ours theirs ws) k ≡ listHolds pool ws k
       collect-holds k = holds-any-shown P pool (itemsOf (collectWords pool fresh ours theirs ws)) (itemsOf ws) collect-shown k
 
       -- where its pool is accepted, the algebra accepts it where it did, and refuses it as it did
@@ -157,7 +159,7 @@ module _ (pool fresh ours theirs : List ℕ) (used : ℕ) (e : collectAnswer poo
 
       -- and what is inserted into it shows what it would have shown before
       pub collect-inserted : (x y : ItemWords) → shown P x ≡ shown pool y
-          → map (shown P) (inserted P x (itemsOf (collectWords pool fresh ours theirs ws))) ≡ map (shown pool) (inserted pool y (itemsOf ws))
+          → SameShown P pool (inserted P x (itemsOf (collectWords pool fresh ours theirs ws))) (inserted pool y (itemsOf ws))
       collect-inserted x y s = insert-shown P pool x y (itemsOf (collectWords pool fresh ours theirs ws)) (itemsOf ws) s collect-shown
 
       -- collecting takes it again
@@ -175,21 +177,19 @@ module _ (pool fresh ours theirs : List ℕ) (used : ℕ) (e : collectAnswer poo
     -- what two of the lists share, and what one keeps without another, shows the same
 
     pub collect-shared : (ws vs : List ℕ) → OneOf ws → OneOf vs
-        → map (shown P) (plain (sharedItems P (collectWords pool fresh ours theirs ws) (collectWords pool fresh ours theirs vs)))
-        ≡ map (shown pool) (plain (sharedItems pool ws vs))
+        → SameShown P pool (sharedItems P (collectWords pool fresh ours theirs ws) (collectWords pool fresh ours theirs vs)) (sharedItems pool ws vs)
     collect-shared ws vs m n = shared-shown P pool _ _ ws vs (collect-shown ws m) (collect-shown vs n)
 
     pub collect-only : (ws vs : List ℕ) → OneOf ws → OneOf vs
-        → map (shown P) (plain (onlyItems P (collectWords pool fresh ours theirs ws) (collectWords pool fresh ours theirs vs)))
-        ≡ map (shown pool) (plain (onlyItems pool ws vs))
+        → SameShown P pool (onlyItems P (collectWords pool fresh ours theirs ws) (collectWords pool fresh ours theirs vs)) (onlyItems pool ws vs)
     collect-only ws vs m n = only-shown P pool _ _ ws vs (collect-shown ws m) (collect-shown vs n)
 
     -- and the call answers alike, in any room
-    pub collect-compared : poolVerdict P ≡ accepted → (both mine yours : List ℕ)
-        → manyAnswer P (collectWords pool fresh ours theirs ours) (collectWords pool fresh ours theirs theirs) both mine yours
-        ≡ manyAnswer pool ours theirs both mine yours
-    collect-compared small both mine yours =
-        many-answer-shown P pool _ _ ours theirs (collect-shown ours (inl refl)) (collect-shown theirs (inr refl)) verdicts both mine yours
+    pub collect-compared : poolVerdict P ≡ accepted → (sharedOut oursOut theirsOut : List ℕ)
+        → manyAnswer P (collectWords pool fresh ours theirs ours) (collectWords pool fresh ours theirs theirs) sharedOut oursOut theirsOut
+        ≡ manyAnswer pool ours theirs sharedOut oursOut theirsOut
+    collect-compared small sharedOut oursOut theirsOut =
+        many-answer-shown P pool _ _ ours theirs (collect-shown ours (inl refl)) (collect-shown theirs (inr refl)) verdicts sharedOut oursOut theirsOut
       where
         verdicts : many.listsVerdict P (collectWords pool fresh ours theirs ours) (collectWords pool fresh ours theirs theirs) ≡ many.listsVerdict pool ours theirs
         verdicts =

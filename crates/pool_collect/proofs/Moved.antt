@@ -2,18 +2,18 @@
 -- wrong with it that was not. Assumes nothing.
 use Prim.Native.Nat.{ℕ, suc, _+_}
 use mathlib.Core.Path.{_≡_, refl, ap₂}
-use mathlib.Core.Bool.{Bool, true, false, not, _||_, _&&_}
-use mathlib.Core.List.{List, [], _∷_, _++_, map}
+use mathlib.Core.Bool.{true, false}
+use mathlib.Core.List.{List, [], _∷_, _++_}
 use native.Mathlib.Omega.{arith}
-use lib.Dec.{eqb, ltb}
+use lib.Dec.{ltb}
 use lib.ListN.{length, length-append, length-take, length-drop}
-use borrow.Author.Tests.{ltb-false, le-ltb, eqb-true, not-false}
+use borrow.Author.Tests.{ltb-false, le-ltb}
 use Rattle.query_item.specs.declared.KeyAt.{KeyAt}
 use Rattle.query_item.specs.declared.ItemWords.{ItemWords}
-use Rattle.query_item.specs.Items.{bytesOf, absent, shown}
+use Rattle.query_item.specs.Items.{bytesOf, absent, shown, SameShown}
 use Rattle.query_item.proofs.Laws.{upright-shown}
-use Rattle.item_check.specs.Checks.{hasStart, hasEnd, written, malformed, keyOut, outside, itemFault, uprightFault, firstBad, mostKey}
-use Rattle.item_check.proofs.Laws.{All, or-false, fault-parts}
+use Rattle.item_check.specs.Checks.{keyOut, itemFault, uprightFault, firstBad, mostKey}
+use Rattle.item_check.proofs.Laws.{All, both-false, fault-parts, Formed, formed-parts, fault-by, keys-in}
 use Rattle.pool_collect.specs.Collected.{isKnown, packed, keysOf, movedKey, movedItem, movedItems}
 use Rattle.pool_collect.specs.Table.{Lies}
 use Rattle.pool_collect.proofs.Distinct.{AllKnown, reads-packed, offset-inside, offset-empty}
@@ -26,35 +26,18 @@ absent-moved pool D = rw (offset-empty D)
 
 lies-in : (pool : List ℕ) (k : KeyAt) → keyOut pool k ≡ false → Lies pool k
 lies-in pool k o =
-    let b = or-false (ltb mostKey (k .length)) (ltb (length pool) (k .offset + k .length)) .0 o in
+    let b = both-false (ltb mostKey (k .length)) (ltb (length pool) (k .offset + k .length)) .0 o in
     record { short = ltb-false _ _ (b .0); within = ltb-false _ _ (b .1) }
 
 in-lies : (pool : List ℕ) (k : KeyAt) → Lies pool k → keyOut pool k ≡ false
-in-lies pool k l = or-false _ _ .1 (le-ltb _ _ (l .short), le-ltb _ _ (l .within))
-
--- a key that is not written is absent
-unwritten : (k : KeyAt) → written k ≡ false → (k .offset ≡ 0) × (k .length ≡ 0)
-unwritten k w =
-    let b = or-false (not (eqb (k .offset) 0)) (not (eqb (k .length) 0)) .0 w in
-    (eqb-true (k .offset) 0 (not-false _ (b .0)), eqb-true (k .length) 0 (not-false _ (b .1)))
+in-lies pool k l = both-false _ _ .1 (le-ltb _ _ (l .short), le-ltb _ _ (l .within))
 
 pub length-bytes : (pool : List ℕ) (k : KeyAt) → Lies pool k → length (bytesOf pool k) ≡ k .length
 length-bytes pool k l = simp (length-take, length-drop) (omega arith)
 
--- an item has a key, or has it not: then its words are 0
-module _ (pool : List ℕ) (k : KeyAt) where
-  side-lies : (has : Bool) → not has && written k ≡ false → has && keyOut pool k ≡ false → Lies pool k
-  side-lies true w o = lies-in pool k o
-  side-lies false w o = let u = unwritten k w in record { short = omega (arith, u .1); within = omega (arith, u .0, u .1) }
-
 -- the keys of an item that nothing of 1 and 2 is wrong with
 pub keys-lie : (pool : List ℕ) (it : ItemWords) → itemFault pool it ≡ 0 → Lies pool (it .start) × Lies pool (it .end)
-keys-lie pool it f =
-    let p = fault-parts pool it f in
-    let m = or-false _ _ .0 (p .0) in
-    let n = or-false (ltb 9 (it .code) || ltb 3 (it .wrapper)) _ .0 (m .0) in
-    let o = or-false _ _ .0 (p .1) in
-    (side-lies pool (it .start) (hasStart (it .code)) (n .1) (o .0), side-lies pool (it .end) (hasEnd (it .code)) (m .1) (o .1))
+keys-lie pool it f = let k = keys-in pool it f in (lies-in pool (it .start) (k .0), lies-in pool (it .end) (k .1))
 
 -- ---- a pool that begins with the keys D, packed
 
@@ -73,10 +56,8 @@ module _ (pool : List ℕ) (D : List (List ℕ)) (rest : List ℕ) where
       within = omega (arith, length-bytes pool k l, offset-inside D (bytesOf pool k) e, length-append (packed D) rest);
     }
 
-    side-moved : (has : Bool) → not has && written k ≡ false
-        → (not has && written (movedKey pool D k) ≡ false) × (has && keyOut new (movedKey pool D k) ≡ false)
-    side-moved true w = (refl, in-lies new (movedKey pool D k) key-lies)
-    side-moved false w = let u = unwritten k w in (rw (u .1, offset-empty D), refl)
+    key-moved : keyOut new (movedKey pool D k) ≡ false
+    key-moved = in-lies new (movedKey pool D k) key-lies
 
   -- ---- an item that nothing of 1 and 2 is wrong with, and whose keys are among D
 
@@ -88,27 +69,25 @@ module _ (pool : List ℕ) (D : List (List ℕ)) (rest : List ℕ) where
       pub item-shown : shown new (movedItem pool D it) ≡ shown pool it
       item-shown = rw (key-reads (it .start) (lie .0) ka, key-reads (it .end) (lie .1) kb)
 
-      parts-moved : (malformed (movedItem pool D it) ≡ false) × (outside new (movedItem pool D it) ≡ false)
-      parts-moved =
-          let m = or-false _ _ .0 (fault-parts pool it f .0) in
-          let n = or-false (ltb 9 (it .code) || ltb 3 (it .wrapper)) _ .0 (m .0) in
-          let a = side-moved (it .start) (lie .0) ka (hasStart (it .code)) (n .1) in
-          let b = side-moved (it .end) (lie .1) kb (hasEnd (it .code)) (m .1) in
-          (or-false _ _ .1 (or-false _ _ .1 (n .0, a .0), b .0), or-false _ _ .1 (a .1, b .1))
-
       pub fault-moved : itemFault new (movedItem pool D it) ≡ 0
-      fault-moved = rw (parts-moved .0, parts-moved .1)
+      fault-moved =
+          let w = formed-parts it (fault-parts pool it f .0) in
+          let formed : Formed (movedItem pool D it) = record {
+            known = w .known;
+            known-wrapper = w .known-wrapper;
+            no-start = λ e. rw (w .no-start e) (absent-moved pool D);
+            no-end = λ e. rw (w .no-end e) (absent-moved pool D);
+          } in
+          fault-by new (movedItem pool D it) formed (key-moved (it .start) (lie .0) ka) (key-moved (it .end) (lie .1) kb)
 
       -- it is upright where it was
       pub upright-moved : uprightFault new (movedItem pool D it) ≡ uprightFault pool it
-      upright-moved =
-          let p = fault-parts pool it f in
-          rw (parts-moved .0, parts-moved .1, p .0, p .1, upright-shown new pool (movedItem pool D it) it item-shown)
+      upright-moved = rw (fault-moved, f, upright-shown new pool (movedItem pool D it) it item-shown)
 
   -- ---- and a list of such items
 
   pub items-shown : (its : List ItemWords) → All (λ it. itemFault pool it ≡ 0) its → AllKnown D (keysOf pool its)
-      → map (shown new) (movedItems pool D its) ≡ map (shown pool) its
+      → SameShown new pool (movedItems pool D its) its
   unfolding keysOf
   items-shown [] f k = refl
   items-shown (it ∷ its) f k = ap₂ _∷_ (item-shown it (f .0) (k .0) (k .1 .0)) (items-shown its (f .1) (k .1 .1))

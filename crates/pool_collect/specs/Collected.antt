@@ -7,7 +7,7 @@ use lib.ListN.{length, drop}
 use lib.Dec.{ltb}
 use Rattle.query_item.specs.declared.KeyAt.{KeyAt}
 use Rattle.query_item.specs.declared.ItemWords.{ItemWords}
-use Rattle.query_item.specs.Items.{bytesOf, same, keyAt, itemWords, flatAll}
+use Rattle.query_item.specs.Items.{bytesOf, same, keyAt, withKeys, flatAll}
 use Rattle.pool_collect.specs.declared.Collected.{Collected}
 use Rattle.pool_collect.specs.declared.Collected.the-variants as collected
 use Rattle.item_check.specs.Checks.{Answer, refusedAs, answered, refused, Verdict, andThen, wordsBy, itemFault, poolVerdict, shapeVerdict, firstBad, itemsOf}
@@ -68,7 +68,7 @@ abbrev pub movedKey : List ℕ → List (List ℕ) → KeyAt → KeyAt
 movedKey pool D k = keyAt (offsetIn D (bytesOf pool k)) (k .length)
 
 abbrev pub movedItem : List ℕ → List (List ℕ) → ItemWords → ItemWords
-movedItem pool D it = itemWords (it .code) (it .wrapper) (movedKey pool D (it .start)) (movedKey pool D (it .end))
+movedItem pool D it = withKeys it (movedKey pool D (it .start)) (movedKey pool D (it .end))
 
 abbrev pub movedItems : List ℕ → List (List ℕ) → List ItemWords → List ItemWords
 movedItems pool D its = map (movedItem pool D) its
@@ -95,12 +95,12 @@ abbrev pub keysKept : List ℕ → List ℕ → List ℕ → List (List ℕ)
 keysKept pool ours theirs = distinct (keysInUse pool (itemsOf ours) (itemsOf theirs))
 
 -- 02 §6.8: 6 exactly if the distinct keys together exceed the new pool; the answer is how many of its bytes are used
-abbrev pub roomAnswer : List (List ℕ) → List ℕ → Answer ℕ
-roomAnswer D fresh = cond (ltb (length fresh) (together D)) (refused 6 0 0) (answered (together D))
+abbrev pub poolRoomAnswer : List (List ℕ) → List ℕ → Answer ℕ
+poolRoomAnswer D fresh = cond (ltb (length fresh) (together D)) (refused 6 0 0) (answered (together D))
 
 abbrev pub collectAnswer : List ℕ → List ℕ → List ℕ → List ℕ → Answer ℕ
 collectAnswer pool fresh ours theirs =
-    andThen (collectVerdict pool fresh ours theirs) (roomAnswer (keysKept pool ours theirs) fresh)
+    andThen (collectVerdict pool fresh ours theirs) (poolRoomAnswer (keysKept pool ours theirs) fresh)
 
 -- 02 §6.6: bytes after the last key stay unchanged
 abbrev pub packedOver : List (List ℕ) → List ℕ → List ℕ

@@ -10,7 +10,7 @@ use Rattle.key_order.specs.Order.{compareKeys, isLess}
 use Rattle.query_item.specs.declared.KeyAt.{KeyAt}
 use lib.Dec.{ltb}
 use Rattle.query_item.specs.declared.ItemWords.{ItemWords}
-use Rattle.query_item.specs.Items.{bytesOf, keyAt, itemWords, same, itemSize, itemAt}
+use Rattle.query_item.specs.Items.{bytesOf, keyAt, withKeys, same, itemSize, itemAt}
 use Rattle.item_check.specs.Checks.{mostKey, mostPool, mostItems, itemsOf}
 use Rattle.pool_collect.specs.Collected.{isEmpty, isKnown, addKey, gather, packed, together, offsetIn, movedItems, keysKept, packedOver, rewritten}
 
@@ -154,7 +154,7 @@ AllInside pool ws = (i : ℕ) → i < length ws / itemSize → BothInside pool (
 -- an item, and items, with the offsets noted from at on
 
 abbrev pub placedItem : List ℕ → ℕ → ItemWords → ItemWords
-placedItem P at it = itemWords (it .code) (it .wrapper) (keyAt (getD P at 0) (it .start .length)) (keyAt (getD P (at + 1) 0) (it .end .length))
+placedItem P at it = withKeys it (keyAt (getD P at 0) (it .start .length)) (keyAt (getD P (at + 1) 0) (it .end .length))
 
 unfoldable pub placedItems : List ℕ → ℕ → List ItemWords → List ItemWords
 placedItems P at [] = []

@@ -29,7 +29,9 @@ fn gather_item(
     item: ItemWords,
 ) -> Gathered
     requires { ⌜ ReadyAll (now pool) (now order) (now table) (now places) known used at 2 × BothInside (now pool) item ⌝ }
-    ensures { λ r. ⌜ GathersAll (now (pool .entry)) (now (order .entry)) (now (places .entry)) known used at (bytesOf (now (pool .entry)) (item .start) ∷ bytesOf (now (pool .entry)) (item .end) ∷ []) 2 (now (order .exit)) (now (table .exit)) (now (places .exit)) (r .known) (r .used) ⌝ }
+    ensures { λ r. ⌜ GathersAll (now (pool .entry)) (now (order .entry)) (now (places .entry)) known used at
+        (bytesOf (now (pool .entry)) (item .start) ∷ bytesOf (now (pool .entry)) (item .end) ∷ []) 2
+        (now (order .exit)) (now (table .exit)) (now (places .exit)) (r .known) (r .used) ⌝ }
 {
     let start = item.start;
     let end = item.end;
@@ -55,7 +57,9 @@ pub(crate) fn gather_list(
     at: usize,
 ) -> Gathered
     requires { ⌜ ReadyAll (now pool) (now order) (now table) (now places) known used at (2 * (length (now words) / itemSize)) × AllInside (now pool) (now words) ⌝ }
-    ensures { λ r. ⌜ GathersAll (now (pool .entry)) (now (order .entry)) (now (places .entry)) known used at (keysOf (now (pool .entry)) (itemsOf (now (words .entry)))) (2 * (length (now (words .entry)) / itemSize)) (now (order .exit)) (now (table .exit)) (now (places .exit)) (r .known) (r .used) ⌝ }
+    ensures { λ r. ⌜ GathersAll (now (pool .entry)) (now (order .entry)) (now (places .entry)) known used at
+        (keysOf (now (pool .entry)) (itemsOf (now (words .entry)))) (2 * (length (now (words .entry)) / itemSize))
+        (now (order .exit)) (now (table .exit)) (now (places .exit)) (r .known) (r .used) ⌝ }
 {
     let count = words.len() / ITEM_SIZE;
     let mut found = Gathered { known, used };

@@ -14,6 +14,7 @@ use crate::pack::pack;
 use crate::rewrite::rewrite_list;
 use item_check::Checked;
 use item_check::Refusal;
+use item_check::refusal_of;
 use item_words::ITEM_SIZE;
 
 mod check;
@@ -30,7 +31,8 @@ pub enum Collected {
 
 // Packs the keys that two lists name into a fresh pool, rewrites the lists' offsets, and answers how many bytes are used (02 §6.1, §6.5, §6.8).
 pub fn collect(pool: &[u8], fresh: &mut [u8], ours: &mut [u32], theirs: &mut [u32]) -> Collected
-    ensures { λ r. ⌜ Collects (now (pool .entry)) (now (fresh .entry)) (now (ours .entry)) (now (theirs .entry)) (collectedOf r) (now (fresh .exit)) (now (ours .exit)) (now (theirs .exit)) ⌝ }
+    ensures { λ r. ⌜ Collects (now (pool .entry)) (now (fresh .entry)) (now (ours .entry)) (now (theirs .entry))
+        (collectedOf r) (now (fresh .exit)) (now (ours .exit)) (now (theirs .exit)) ⌝ }
 {
     match check_collect(pool, fresh, ours, theirs) {
         Checked::Refused(r) => Collected::Refused(r),
@@ -41,7 +43,8 @@ pub fn collect(pool: &[u8], fresh: &mut [u8], ours: &mut [u32], theirs: &mut [u3
 // The same of lists that are checked already: what is left to refuse is want of room.
 fn collect_checked(pool: &[u8], fresh: &mut [u8], ours: &mut [u32], theirs: &mut [u32]) -> Collected
     requires { ⌜ collectVerdict (now pool) (now fresh) (now ours) (now theirs) ≡ accepted ⌝ }
-    ensures { λ r. ⌜ Collects (now (pool .entry)) (now (fresh .entry)) (now (ours .entry)) (now (theirs .entry)) (collectedOf r) (now (fresh .exit)) (now (ours .exit)) (now (theirs .exit)) ⌝ }
+    ensures { λ r. ⌜ Collects (now (pool .entry)) (now (fresh .entry)) (now (ours .entry)) (now (theirs .entry))
+        (collectedOf r) (now (fresh .exit)) (now (ours .exit)) (now (theirs .exit)) ⌝ }
 {
     let mut order = [0u64; 8192];
     let mut table = [0u16; 8192];
@@ -68,17 +71,14 @@ fn collect_with(
     places: &mut [u32; 8192],
 ) -> Collected
     requires { ⌜ collectVerdict (now pool) (now fresh) (now ours) (now theirs) ≡ accepted ⌝ }
-    ensures { λ r. ⌜ Collects (now (pool .entry)) (now (fresh .entry)) (now (ours .entry)) (now (theirs .entry)) (collectedOf r) (now (fresh .exit)) (now (ours .exit)) (now (theirs .exit)) ⌝ }
+    ensures { λ r. ⌜ Collects (now (pool .entry)) (now (fresh .entry)) (now (ours .entry)) (now (theirs .entry))
+        (collectedOf r) (now (fresh .exit)) (now (ours .exit)) (now (theirs .exit)) ⌝ }
 {
     let all = gather_both(pool, ours, theirs, order, table, places);
     let known = all.known;
     let used = all.used;
     if fresh.len() < used {
-        return Collected::Refused(Refusal {
-            number: 6,
-            side: 0,
-            index: 0,
-        });
+        return Collected::Refused(refusal_of(6, 0, 0));
     }
     write_all(pool, fresh, ours, theirs, order, places, known);
     Collected::Used(used)
@@ -94,7 +94,8 @@ fn gather_both(
     places: &mut [u32],
 ) -> Gathered
     requires { ⌜ Start (now pool) (now ours) (now theirs) (now order) (now table) (now places) ⌝ }
-    ensures { λ r. ⌜ Complete (now (pool .entry)) (now (ours .entry)) (now (theirs .entry)) (now (order .exit)) (now (places .exit)) (r .known) × (r .used ≡ together (keysKept (now (pool .entry)) (now (ours .entry)) (now (theirs .entry)))) ⌝ }
+    ensures { λ r. ⌜ Complete (now (pool .entry)) (now (ours .entry)) (now (theirs .entry)) (now (order .exit)) (now (places .exit)) (r .known)
+        × (r .used ≡ together (keysKept (now (pool .entry)) (now (ours .entry)) (now (theirs .entry)))) ⌝ }
 {
     let first = gather_list(pool, ours, order, table, places, 0, 0, 0);
     gather_list(

@@ -7,6 +7,7 @@ ghost use Rattle.item_check.specs.Checks.{itemsOf};
 ghost use Rattle.pool_collect.specs.Table.{placedItem, placedItems, Noted};
 use item_words::ITEM_SIZE;
 use item_words::item_at;
+use item_words::with_keys;
 use item_words::write_item;
 use query_item::ItemWords;
 use query_item::KeyAt;
@@ -26,12 +27,7 @@ fn placed_item(places: &[u32], at: usize, item: ItemWords) -> ItemWords
         offset: places[at + 1],
         length: old_end.length,
     };
-    ItemWords {
-        code: item.code,
-        wrapper: item.wrapper,
-        start,
-        end,
-    }
+    with_keys(item, start, end)
 }
 
 // Each item in its place.

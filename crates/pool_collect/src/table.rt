@@ -6,10 +6,11 @@ ghost use Prim.Native.Nat.{_%_, _≤_, _<_};
 ghost use lib.ListN.{length, getD};
 ghost use Rattle.key_order.specs.Order.{compareKeys};
 ghost use Rattle.query_item.specs.Items.{bytesOf};
+ghost use Rattle.item_check.specs.Checks.{mostPool, mostKey};
 ghost use Rattle.pool_collect.specs.Table.{mostBytes, entryOf, newOffset, oldKey, entryKey, entryAt, Searchable, Spot, Inserted, isThere, Ready, Gathers};
-use boundary::is_equal;
-use boundary::is_less;
 use key_order::Ordering;
+use key_order::is_equal;
+use key_order::is_less;
 use query_item::KeyAt;
 use query_item::pooled::compare_keys;
 
@@ -22,7 +23,7 @@ pub(crate) struct Placed {
 
 // Where a key goes in the fresh pool, its offset in the old one and its length, as one number.
 fn entry_of(to: usize, key: KeyAt) -> u64
-    requires { ⌜ (to ≤ mostBytes) × (key .offset ≤ 65536) × (key .length ≤ 255) ⌝ }
+    requires { ⌜ (to ≤ mostBytes) × (key .offset ≤ mostPool) × (key .length ≤ mostKey) ⌝ }
     ensures { λ r. ⌜ r ≡ entryOf to key ⌝ }
 {
     to as u64 * 16777216 + key.offset as u64 * 256 + key.length as u64

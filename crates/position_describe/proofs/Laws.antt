@@ -52,20 +52,20 @@ examples-few report h =
 -- no text of a report that is not refused is longer than the longest
 pub text-most : (report : PositionMismatch) → report .count ≤ mostReported → length (textOf report) ≤ mostText
 text-most report h =
-    let total = decimal (report .total) in
+    let total = decimal (report .total .0) in
     let e = numbersOf report ++ (93 ∷ []) in
     let d = (58 ∷ 32 ∷ 91 ∷ []) ++ e in
-    let c = firstPart (report .total) (report .count) ++ d in
+    let c = firstPart (report .total .0) (report .count) ++ d in
     let b = positionsWord ++ c in
     omega (
       arith,
       length-append total b,
       length-append positionsWord c,
-      length-append (firstPart (report .total) (report .count)) d,
+      length-append (firstPart (report .total .0) (report .count)) d,
       length-append (58 ∷ 32 ∷ 91 ∷ []) e,
       length-append (numbersOf report) (93 ∷ []),
-      decimal-few (report .total),
-      first-few (report .total) (report .count) h,
+      decimal-few (report .total .0),
+      first-few (report .total .0) (report .count) h,
       examples-few report h,
     )
 

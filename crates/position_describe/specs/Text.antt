@@ -40,8 +40,8 @@ numbersOf report = numbers (take (report .count) (report .examples))
 -- 01 m6.13: `describe` writes the Rust's text: total, positions, perhaps how many are shown, then ": [" the examples "]"
 abbrev pub textOf : PositionMismatch → List ℕ
 textOf report =
-    decimal (report .total)
-    ++ (positionsWord ++ (firstPart (report .total) (report .count) ++ ((58 ∷ 32 ∷ 91 ∷ []) ++ (numbersOf report ++ (93 ∷ [])))))
+    decimal (report .total .0)
+    ++ (positionsWord ++ (firstPart (report .total .0) (report .count) ++ ((58 ∷ 32 ∷ 91 ∷ []) ++ (numbersOf report ++ (93 ∷ [])))))
 
 -- 01 m6.13: 394 bytes at most
 abbrev pub mostText : ℕ
@@ -59,7 +59,7 @@ describeAnswer report room =
 -- 01 demand.1: the bytes then: the text and what stood past it, or all as they were
 abbrev pub describedIn : Answer ℕ → PositionMismatch → List ℕ → List ℕ
 describedIn (answered n) report out = textOf report ++ drop (length (textOf report)) out
-describedIn (refused number side index) report out = out
+describedIn (refusedAs r) report out = out
 
 -- 01 form.11: the paper's numbers for each case of the code's answer
 abbrev pub describedOf : Described → Answer ℕ

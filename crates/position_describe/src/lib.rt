@@ -11,6 +11,7 @@ ghost use Rattle.position_describe.specs.Text.{firstPart, numbersOf, tex
 ghost use Rattle.position_report.specs.Reports.{mostReported};
 ghost use Rattle.lent_text.specs.Text.{decimal, stored};
 use item_check::Refusal;
+use item_check::refusal_of;
 use lent_text::put_number;
 use lent_text::put_text;
 use position_report::PositionMismatch;
@@ -49,11 +50,7 @@ pub fn describe(report: PositionMismatch, out: &mut [u8]) -> Described
 fn refused(number: u32) -> Described
     ensures { λ r. ⌜ describedOf r ≡ refusedWith number ⌝ }
 {
-    Described::Refused(Refusal {
-        number,
-        side: 0,
-        index: 0,
-    })
+    Described::Refused(refusal_of(number, 0, 0))
 }
 
 // The whole text of a report with at most 16 examples.
@@ -61,9 +58,9 @@ fn put_report(out: &mut [u8], report: PositionMismatch, write: bool) -> usize
     requires { ⌜ report .count ≤ mostReported ⌝ }
     ensures { λ r. ⌜ (r ≡ length (textOf report)) × (now (out .exit) ≡ stored write (now (out .entry)) 0 (textOf report)) ⌝ }
 {
-    let a = put_number(out, 0, report.total, write);
+    let a = put_number(out, 0, report.total.0, write);
     let b = a + put_text(out, a, b" positions", write);
-    let c = b + put_first(out, b, report.total, report.count, write);
+    let c = b + put_first(out, b, report.total.0, report.count, write);
     let d = c + put_text(out, c, b": [", write);
     let e = d + put_numbers(out, d, report, write);
     e + put_text(out, e, b"]", write)

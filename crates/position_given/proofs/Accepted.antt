@@ -9,10 +9,12 @@ use lib.Dec.{ltb, eqb}
 use lib.ListN.{length, getD, drop, drop-of-length-le}
 use lib.Seq.{drop-cons}
 use borrow.Author.Tests.{lt-ltb, le-ltb, ltb-true, eq-eqb, eqb-true}
+use Rattle.key_order.proofs.Impossible.{impossible}
 use Rattle.intervals.specs.Intervals.{Interval, Apart, Canonical}
+use Rattle.item_check.specs.declared.Refusal.{Refusal}
 use Rattle.item_check.specs.declared.Checked.{Checked}
 use Rattle.item_check.specs.declared.Checked.the-variants.{Accepted}
-use Rattle.item_check.specs.Checks.{Verdict, accepted, refused, verdictOf}
+use Rattle.item_check.specs.Checks.{refused, refusedAs, Verdict, accepted, verdictOf}
 use Rattle.item_check.proofs.Laws.{accepts}
 use Rattle.pairs_sort.specs.Pairs.{start, finish, pairsFrom, pairs}
 use Rattle.pairs_sort.proofs.Laws.{pairs-more, pairs-end}
@@ -20,8 +22,8 @@ use Rattle.position_given.specs.Inner.{Sound, Ascends}
 use Rattle.position_given.specs.Given.{intervalsOf, evenVerdict, firstTouching, canonicalVerdict, intervalsVerdict, firstFalling, ascendingVerdict, provedVerdict}
 
 -- a refusal is no acceptance
-pub never-accepted : {X : Type 0} {n s i : ℕ} → refused n s i ≡ accepted → X
-never-accepted e = let z : _≡_ {A = ℕ} 0 1 = cc in absurd (omega arith)
+pub never-accepted : {X : Type 0} {r : Refusal} → refusedAs r ≡ accepted → X
+never-accepted e = impossible cc
 
 -- ---- intervals
 
@@ -143,8 +145,8 @@ ascending-accepts (p ∷ P) h = ascends-falling 1 p P (h .1)
 -- ---- what a call knows
 
 -- where the intervals are refused, that is the verdict, whatever is proved
-pub intervals-first : (ws P : List ℕ) (n s i : ℕ) → intervalsVerdict ws ≡ refused n s i → provedVerdict ws P ≡ refused n s i
-intervals-first ws P n s i h = rw h
+pub intervals-first : (ws P : List ℕ) (r : Refusal) → intervalsVerdict ws ≡ refusedAs r → provedVerdict ws P ≡ refusedAs r
+intervals-first ws P r h = rw h
 
 pub sound : (ws : List ℕ) → intervalsVerdict ws ≡ accepted → Sound ws
 sound ws h =

@@ -1,14 +1,17 @@
 -- The pass that checks intervals and counts their rows: a turn of it, and what it answers. Assumes nothing.
 use Prim.Native.Nat.{ℕ, _+_, _-_, _/_, _≤_, _<_}
 use mathlib.Core.Path.{_≡_, refl, _∙_}
-use mathlib.Core.Bool.{Bool, true, false, _&&_, false≢true}
+use mathlib.Core.Bool.{true, false, _&&_}
 use mathlib.Core.List.{List}
 use native.Mathlib.Omega.{arith}
 use lib.Dec.{ltb}
 use lib.ListN.{length}
 use borrow.Author.Tests.{ltb-true}
+use Rattle.key_order.proofs.Impossible.{impossible}
 use Rattle.intervals.specs.Intervals.{Interval}
-use Rattle.item_check.specs.Checks.{answered, refused, Verdict, accepted, andThen}
+use Rattle.item_check.specs.declared.Refusal.{Refusal}
+use Rattle.item_check.specs.Checks.{answered, refused, refusedAs, Verdict, accepted, andThen}
+use Rattle.key_order.proofs.Bools.{both-true}
 use Rattle.pairs_sort.specs.Pairs.{start, finish, pairsFrom, pairs}
 use Rattle.position_given.specs.Given.{intervalsOf, firstTouching, canonicalVerdict}
 use Rattle.position_given.specs.Positions.{positionsOf, rowsOf}
@@ -18,12 +21,7 @@ use Rattle.position_given.proofs.Widths.{width-more, width-end}
 
 -- a pair from s to f after one that ends at e
 stands-apart : (e s f : ℕ) → ltb e s && ltb s f ≡ true → (e < s) × (s < f)
-stands-apart e s f h = go (ltb e s) (ltb s f) refl refl h
-  where
-    go : (t u : Bool) → ltb e s ≡ t → ltb s f ≡ u → t && u ≡ true → (e < s) × (s < f)
-    go true true p q r = (ltb-true e s p, ltb-true s f q)
-    go true false p q r = absurd (false≢true r)
-    go false u p q r = absurd (false≢true r)
+stands-apart e s f h = let b = both-true (ltb e s) (ltb s f) h in (ltb-true e s (b .0), ltb-true s f (b .1))
 
 -- of count pairs, those before i are canonical and have so many rows, no more than end, where the last of them ends
 pub record Counting (ws : List ℕ) (count end sum i : ℕ) : Type 0 where
@@ -70,16 +68,16 @@ module _ {ws : List ℕ} {count end sum i : ℕ} (C : Counting ws count end sum 
 -- ---- what the answer tells of the verdict
 
 module _ (A : List Interval) where
-  pub rows-refused : (n s i : ℕ) → refused n s i ≡ rowsAnswer A → refused n s i ≡ canonicalVerdict A
-  rows-refused n s i e = go (canonicalVerdict A) e
+  pub rows-refused : (r : Refusal) → refusedAs r ≡ rowsAnswer A → refusedAs r ≡ canonicalVerdict A
+  rows-refused r e = go (canonicalVerdict A) e
     where
-      go : (v : Verdict) → refused n s i ≡ andThen v (answered (rowsOf A)) → refused n s i ≡ v
-      go (answered u) d = let z : _≡_ {A = ℕ} 0 1 = cc in absurd (omega arith)
-      go (refused m t j) d = cc
+      go : (v : Verdict) → refusedAs r ≡ andThen v (answered (rowsOf A)) → refusedAs r ≡ v
+      go (answered u) d = impossible cc
+      go (refusedAs r) d = cc
 
   pub rows-counted : (n : ℕ) → answered n ≡ rowsAnswer A → (accepted ≡ canonicalVerdict A) × (n ≡ rowsOf A)
   rows-counted n e = go (canonicalVerdict A) e
     where
       go : (v : Verdict) → answered n ≡ andThen v (answered (rowsOf A)) → (accepted ≡ v) × (n ≡ rowsOf A)
       go (answered tt) d = (refl, cc)
-      go (refused m t j) d = let z : _≡_ {A = ℕ} 0 1 = cc in absurd (omega arith)
+      go (refusedAs r) d = impossible cc

@@ -1,5 +1,5 @@
--- The laws that a caller cites: what the checks accept, exactly; the rows of a list in which one more range is covered; and that answers are told
--- apart. No contract cites this file. Assumes nothing.
+-- The laws that a caller cites: what the checks accept, exactly; that an ascending list is determined by its members; the rows of a list in
+-- which one more range is covered; and that answers are told apart. No contract cites this file. Assumes nothing.
 use Prim.Native.Nat.{ℕ}
 use mathlib.Core.Path.{_≡_, ap}
 use mathlib.Core.Logic.{_↔_}
@@ -16,6 +16,7 @@ use Rattle.position_given.specs.Answers.{lengthOf, storedOf}
 use Rattle.position_given.specs.Inner.{Sound, Ascends}
 use Rattle.position_given.proofs.Accepted.{canonical-accepted, canonical-accepts, sound, sound-accepts}
 use Rattle.position_given.proofs.Accepted.{ascending-accepted, ascending-accepts, proved-accepted, proved-accepts}
+pub use Rattle.position_given.proofs.Positions.{in-positions, ascends-unique}
 pub use Rattle.position_given.proofs.Rows.{newly, rows-newly, already, rows-already}
 
 -- 01 no.9, m6.4: intervals are accepted exactly if they are canonical

@@ -2,7 +2,9 @@ pub mod Laws
 pub mod Apart
 pub mod Accepted
 pub mod Widths
+pub mod Positions
 pub mod Counting
 pub mod Rows
 pub mod Fronts
 pub mod Held
+pub mod Indexes

@@ -1,16 +1,18 @@
 // Module 6 of document 01: intervals and proved positions, which are lent as words: their checks, in the order that document 01 fixes.
 // Definitions: specs/Given.antt (the checks), specs/Positions.antt (the positions of intervals), specs/Answers.antt (answers that several calls
-// have), specs/Inner.antt (what inner and private functions promise, here and in the crates above). Laws: proofs/Laws.antt, proofs/Widths.antt,
-// proofs/Rows.antt.
+// have), specs/Inner.antt (what inner and private functions promise, here and in the crates above). Laws: proofs/Laws.antt; of lists of
+// positions, proofs/Positions.antt; of widths and rows, proofs/Widths.antt and proofs/Rows.antt.
 //
 // Every function is inner: it is public only because other crates need it, and its definition covers every input.
 ghost use mathlib.Core.Path.{_≡_};
-ghost use Prim.Native.Nat.{min};
+ghost use Prim.Native.Nat.{_+_, min};
 ghost use Rattle.item_check.specs.Checks.{verdictOf, refused};
 ghost use Rattle.position_given.specs.Given.{intervalsOf, evenVerdict, intervalsVerdict, ascendingVerdict, provedVerdict};
-ghost use Rattle.position_given.specs.Answers.{lengthOf, rowsAnswer};
+ghost use Rattle.position_given.specs.Answers.{lengthOf, rowsAnswer, storedOf};
+ghost use Rattle.position_given.specs.Inner.{lastWord};
 use item_check::Checked;
 use item_check::Refusal;
+use item_check::refusal_of;
 use item_check::refuse;
 
 // The last u64. As a position it is covered by nothing, since no count is above it: nothing adds 1 to it.
@@ -88,11 +90,7 @@ pub fn count_rows(intervals: &[u64]) -> Length
 fn not_canonical(index: usize) -> Length
     ensures { λ r. ⌜ lengthOf r ≡ refused 9 0 index ⌝ }
 {
-    Length::Refused(Refusal {
-        number: 9,
-        side: 0,
-        index,
-    })
+    Length::Refused(refusal_of(9, 0, index))
 }
 
 // inner: whether words are intervals, and the positions proved of them ascend strictly.
@@ -124,6 +122,23 @@ pub fn check_ascending(proved: &[u64]) -> Checked
         i += 1;
     }
     Checked::Accepted
+}
+
+// inner: the refusal of a list that has no room.
+pub fn no_room() -> Stored
+    ensures { λ r. ⌜ storedOf r ≡ refused 6 0 0 ⌝ }
+{
+    Stored::Refused(refusal_of(6, 0, 0))
+}
+
+// inner: a sum, or the last u64 where it is past that.
+pub fn saturating_add(x: u64, y: u64) -> u64
+    ensures { λ r. ⌜ r ≡ min (x + y) lastWord ⌝ }
+{
+    if LAST_WORD - x < y {
+        return LAST_WORD;
+    }
+    x + y
 }
 
 // inner: the smaller of two numbers.

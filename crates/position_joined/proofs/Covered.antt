@@ -12,10 +12,10 @@ use Rattle.intervals.proofs.Members.{inside-yes, inside-past}
 use Rattle.intervals.proofs.Laws.{canonical→strict}
 use Rattle.query_item.specs.declared.ItemWords.{ItemWords}
 use Rattle.item_check.specs.Checks.{itemsOf}
-use Rattle.pairs_sort.specs.Pairs.{pairs}
+use Rattle.pairs_sort.specs.Pairs.{pairs, CanonicalPairs}
 use Rattle.position_given.specs.Positions.{countUp, positionsOf}
-use Rattle.position_query.specs.Covered.{covered, Covers}
-use Rattle.position_mismatch.proofs.Positions.{in-keep, in-count, in-positions, ascends-keep, ascends-count, ascends-positions, ascends-unique}
+use Rattle.position_query.specs.Covered.{covered, rangesNeeded}
+use Rattle.position_given.proofs.Positions.{in-keep, in-count, in-positions, ascends-keep, ascends-count, ascends-positions, ascends-unique}
 
 -- what is covered stands below the count
 covered-below : (pool : List ℕ) (its : List ItemWords) (count p : ℕ)
@@ -26,13 +26,14 @@ covered-below pool its count p = elim (decLt p count) [
   | no h ↦ rw (inside-past 0 (0 + count) p (omega arith), le-ltb p count (omega arith))
 ]
 
-pub covered-positions : (pool ws : List ℕ) (count : ℕ) (old new : List ℕ) (m t : ℕ) → Covers pool ws count old new m t
+pub covered-positions : (pool ws : List ℕ) (count : ℕ) (old new : List ℕ) (m : ℕ)
+    → CanonicalPairs (covered pool (itemsOf ws) count) (rangesNeeded pool count (itemsOf ws)) old new m
     → positionsOf (pairs new m) ≡ keep (covered pool (itemsOf ws) count) (countUp 0 count)
-covered-positions pool ws count old new m t C =
+covered-positions pool ws count old new m C =
     let f = covered pool (itemsOf ws) count in
     ascends-unique 0 0 (positionsOf (pairs new m)) (keep f (countUp 0 count))
     (ascends-positions 0 (pairs new m) (canonical→strict (pairs new m) (C .canonical)))
     (ascends-keep 0 f (countUp 0 count) (ascends-count 0 count))
     (λ p. in-positions (pairs new m) p
-    ∙ C .covers p
+    ∙ C .holding p
     ∙ sym (in-keep f (countUp 0 count) p ∙ rw (in-count 0 count p) (covered-below pool (itemsOf ws) count p)))

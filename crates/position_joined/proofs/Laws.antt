@@ -11,22 +11,23 @@ use native.Mathlib.Omega.{arith}
 use lib.Dec.{eqb}
 use lib.ListN.{length, take}
 use borrow.Author.Tests.{eq-eqb, ne-eqb}
+use Rattle.key_order.proofs.Impossible.{impossible}
 use Rattle.intervals.specs.Lists.{keep}
 use Rattle.intervals.specs.Intervals.{Interval, Canonical, inside, holds}
-use Rattle.item_check.specs.Checks.{Answer, answered, refused, Verdict, accepted, andThen, itemsOf}
-use Rattle.pairs_sort.specs.Pairs.{pairs}
+use Rattle.item_check.specs.Checks.{Answer, answered, refusedAs, Verdict, accepted, andThen, itemsOf}
+use Rattle.pairs_sort.specs.Pairs.{pairs, CanonicalPairs}
 use Rattle.position_given.specs.Given.{intervalsOf, intervalsVerdict}
 use Rattle.position_given.specs.Inner.{Sound, Ascends}
-use Rattle.position_given.specs.Positions.{countUp, positionsOf, rowsOf}
+use Rattle.position_given.specs.Positions.{countUp, positionsOf, rowsOf, isIn}
 use Rattle.position_given.proofs.Accepted.{sound-accepts, ascending-accepts, proved-accepts}
 use Rattle.position_given.proofs.Accepted as given
+use Rattle.position_given.proofs.Positions.{in-positions, keep-same, keep-keep}
 use Rattle.position_given.proofs.Fronts.{canonical-fits, front-intervals, front-sound}
 use Rattle.position_intervals.specs.Asked.{containsAnswer, lenAnswer, isEmptyAnswer}
-use Rattle.position_query.specs.Covered.{covered, Covers, FromQueryItems}
+use Rattle.position_query.specs.Covered.{covered, rangesNeeded, FromQueryItems}
 use Rattle.position_report.specs.Reports.{reportOf}
-use Rattle.position_mismatch.specs.Reports.{isIn, missing, extra, firstCrossing, missingAnswer, extraAnswer, spansAnswer}
-use Rattle.position_mismatch.proofs.Laws.{spans-as-positions}
-use Rattle.position_mismatch.proofs.Positions.{in-positions, ascends-spans, keep-same, keep-keep}
+use Rattle.position_mismatch.specs.Reports.{missing, extra, firstCrossing, missingAnswer, extraAnswer, spansAnswer}
+use Rattle.position_mismatch.proofs.Laws.{ascends-spans, spans-as-positions}
 use Rattle.position_plan.specs.Plans.{accepts, plan, fitted, planAnswer, checkAnswer}
 use Rattle.position_stored.specs.Stored.{totalAnswer, coverAnswer, coverWords, uncoverAnswer, uncoverWords}
 use Rattle.position_stored.specs.Inner.{StoredList}
@@ -36,8 +37,11 @@ use Rattle.position_joined.proofs.Covered.{covered-positions}
 
 module _ (pool ws : List ℕ) (count : ℕ) (old new : List ℕ) (r : Answer (ℕ × ℕ))
     (F : FromQueryItems pool ws count old new r) (m t : ℕ) (is : r ≡ answered (m, t)) where
-  C : Covers pool ws count old new m t
-  C = F .written m t is
+  C : CanonicalPairs (covered pool (itemsOf ws) count) (rangesNeeded pool count (itemsOf ws)) old new m
+  C = F .written m t is .list
+
+  total : t ≡ rowsOf (pairs new m)
+  total = F .written m t is .total
 
   written : intervalsOf (take (2 * m) new) ≡ pairs new m
   written = front-intervals new m (C .canonical)
@@ -46,7 +50,7 @@ module _ (pool ws : List ℕ) (count : ℕ) (old new : List ℕ) (r : Answer (�
   sound = front-sound new m (C .canonical)
 
   positions : positionsOf (pairs new m) ≡ keep (covered pool (itemsOf ws) count) (countUp 0 count)
-  positions = covered-positions pool ws count old new m t C
+  positions = covered-positions pool ws count old new m C
 
   -- 01 m6.4: what is written is accepted
   pub built-accepted : intervalsVerdict (take (2 * m) new) ≡ accepted
@@ -54,21 +58,21 @@ module _ (pool ws : List ℕ) (count : ℕ) (old new : List ℕ) (r : Answer (�
 
   -- 02 §4.5: it is a stored list, with the total that is answered
   pub built-stored : StoredList new m t
-  built-stored = record { within = omega (arith, canonical-fits new m (C .canonical)); canonical = C .canonical; right = sym (C .total) }
+  built-stored = record { within = omega (arith, canonical-fits new m (C .canonical)); canonical = C .canonical; right = sym (total) }
 
   -- 02 §4.5: that total is how many positions below the count are covered
   pub built-total : t ≡ length (keep (covered pool (itemsOf ws) count) (countUp 0 count))
-  built-total = C .total ∙ ap length positions
+  built-total = total ∙ ap length positions
 
   -- 02 §4.2: with a range covered they hold what the items cover or lies in the range
   pub built-covered : (s e n k : ℕ) → coverAnswer new m t s e ≡ answered (n, k) → (p : ℕ)
       → holds (pairs (coverWords new m t s e) n) p ≡ inside s e p || covered pool (itemsOf ws) count p
-  built-covered s e n k h p = covered-holds new m t s e n k h p ∙ ap (λ (b : Bool). inside s e p || b) (C .covers p)
+  built-covered s e n k h p = covered-holds new m t s e n k h p ∙ ap (λ (b : Bool). inside s e p || b) (C .holding p)
 
   -- 02 §4.3: with a range uncovered, what the items cover and does not lie in the range
   pub built-uncovered : (s e n k : ℕ) → uncoverAnswer new m t s e ≡ answered (n, k) → (p : ℕ)
       → holds (pairs (uncoverWords new m t s e) n) p ≡ covered pool (itemsOf ws) count p && not (inside s e p)
-  built-uncovered s e n k h p = uncovered-holds new m t s e n k h p ∙ ap (λ (b : Bool). b && not (inside s e p)) (C .covers p)
+  built-uncovered s e n k h p = uncovered-holds new m t s e n k h p ∙ ap (λ (b : Bool). b && not (inside s e p)) (C .holding p)
 
   -- what a caller keeps of it: the words, how many pairs, the total
   abbrev pub built : Kept
@@ -83,21 +87,21 @@ module _ (pool ws : List ℕ) (count : ℕ) (old new : List ℕ) (r : Answer (�
   module _ (xs : List Step) where
     -- 02 §4.2, §4.3: the list that is kept covers these, and no others
     pub built-holds : (p : ℕ) → keptRows (steps built xs) p ≡ stepsRows built xs (covered pool (itemsOf ws) count) p
-    built-holds = steps-holds built xs (covered pool (itemsOf ws) count) built-stored (C .covers)
+    built-holds = steps-holds built xs (covered pool (itemsOf ws) count) built-stored (C .holding)
 
     -- 02 §14.1, §14.3: no list of half-open pairs that covers these rows has fewer than are kept
     pub built-fewest : (B : List Interval) → ((p : ℕ) → holds B p ≡ stepsRows built xs (covered pool (itemsOf ws) count) p)
         → steps built xs .count ≤ length B
-    built-fewest = steps-fewest built xs (covered pool (itemsOf ws) count) built-stored (C .covers)
+    built-fewest = steps-fewest built xs (covered pool (itemsOf ws) count) built-stored (C .holding)
 
     -- 02 §14.2, §14.3: a canonical list that covers these rows is the one that is kept
     pub built-unique : (A : List Interval) → Canonical A → ((p : ℕ) → holds A p ≡ stepsRows built xs (covered pool (itemsOf ws) count) p)
         → pairs (steps built xs .words) (steps built xs .count) ≡ A
-    built-unique = steps-unique built xs (covered pool (itemsOf ws) count) built-stored (C .covers)
+    built-unique = steps-unique built xs (covered pool (itemsOf ws) count) built-stored (C .holding)
 
   -- 01 m6.3, m6.8: `contains` answers whether a position is covered
   pub built-contains : (p : ℕ) → containsAnswer (take (2 * m) new) p ≡ answered (covered pool (itemsOf ws) count p)
-  built-contains p = rw (built-accepted, written, C .covers p)
+  built-contains p = rw (built-accepted, written, C .holding p)
 
   -- 01 m6.9: `len` answers how many positions below the count are covered
   pub built-len : lenAnswer (take (2 * m) new) ≡ answered (length (keep (covered pool (itemsOf ws) count) (countUp 0 count)))
@@ -120,7 +124,7 @@ module _ (pool ws : List ℕ) (count : ℕ) (old new : List ℕ) (r : Answer (�
   unfolding extra
   built-extra P a =
       let same : keep (λ p. not (holds (pairs new m) p)) P ≡ keep (λ p. not (covered pool (itemsOf ws) count p)) P =
-      keep-same (λ p. not (holds (pairs new m) p)) (λ p. not (covered pool (itemsOf ws) count p)) P (λ p q. ap not (C .covers p)) in
+      keep-same (λ p. not (holds (pairs new m) p)) (λ p. not (covered pool (itemsOf ws) count p)) P (λ p q. ap not (C .holding p)) in
       rw (proved-accepts (take (2 * m) new) P sound a, written, same)
 
   -- 01 m6.11: of accepted spans S, `missing_from_spans` reports the covered positions that stand in none of them
@@ -180,4 +184,4 @@ counted-stored ws t h = go (intervalsVerdict ws) refl h
   where
     go : (v : Verdict) → intervalsVerdict ws ≡ v → andThen v (answered (rowsOf (intervalsOf ws))) ≡ answered t → StoredList ws (length ws / 2) t
     go (answered u) e q = record { within = omega arith; canonical = given.sound ws e .canonical; right = cc }
-    go (refused n s i) e q = let z : _≡_ {A = ℕ} 0 1 = cc in absurd (omega arith)
+    go (refusedAs r) e q = impossible cc

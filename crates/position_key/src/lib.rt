@@ -1,8 +1,8 @@
 // Module 6 of document 01: a position key read.
 // Definitions: specs/Keys.antt. Laws: proofs/Keys.antt (big-endian numbers), proofs/Laws.antt.
 ghost use mathlib.Core.Path.{_≡_};
-ghost use Prim.Native.Nat.{_<_};
 ghost use Rattle.position_key.specs.Keys.{positionOf, positionAnswer};
+use key_order::wide;
 use position_given::LogPosition;
 
 // What `be_u64` answers: the position, or refusal 7.
@@ -28,10 +28,4 @@ pub fn be_u64(key: &[u8]) -> PositionKey
             + wide(key[1]) * 281474976710656
             + wide(key[0]) * 72057594037927936,
     ))
-}
-
-fn wide(x: u8) -> u64
-    ensures { λ r. ⌜ (r ≡ x) × (r < 256) ⌝ }
-{
-    x as u64
 }

@@ -2,7 +2,7 @@
 -- Assumes nothing.
 use Prim.Native.Nat.{ℕ, suc, _+_, _/_, _≤_, _<_, min}
 use mathlib.Core.Path.{_≡_, refl, sym, ap, _∙_}
-use mathlib.Core.Bool.{Bool, true, false, not, _&&_, true≢false}
+use mathlib.Core.Bool.{Bool, true, false, not, _&&_}
 use mathlib.Core.List.{List, [], _∷_, _++_, append-nil}
 use native.Mathlib.Decide.{decLt, ℕ-discrete}
 use native.Mathlib.Numerals.{add-one}
@@ -17,7 +17,7 @@ use Rattle.intervals.proofs.Members.{inside-below, inside-yes, inside-past}
 use Rattle.intervals.proofs.Laws.{keep-append, keep-parts}
 use Rattle.pairs_sort.specs.Pairs.{start, finish}
 use Rattle.position_given.specs.Given.{intervalsOf}
-use Rattle.position_given.specs.Positions.{countUp}
+use Rattle.position_given.specs.Positions.{countUp, isIn}
 use Rattle.position_given.specs.Inner.{Sound, Ascends, lastWord}
 use Rattle.position_given.proofs.Held.{held-at}
 use Rattle.position_given.proofs.Widths.{Words}
@@ -26,9 +26,9 @@ use Rattle.position_report.specs.Reports.{reportOf}
 use Rattle.position_report.specs.Inner.{withRun}
 use Rattle.position_report.proofs.Runs.{run-report}
 use Rattle.position_mismatch.specs.declared.Walk.{Walk}
-use Rattle.position_mismatch.specs.Reports.{isIn, missing, extra}
+use Rattle.position_mismatch.specs.Reports.{missing, extra}
 use Rattle.position_mismatch.specs.Inner.{walkAt, reportUntil, pairsLeft, overSpan, FirstPast}
-use Rattle.position_mismatch.proofs.Positions.{in-append, in-below, ascends-weaken}
+use Rattle.position_given.proofs.Positions.{in-append, ascends-member, ascends-weaken}
 use Rattle.position_mismatch.proofs.Walks.{Reached, reached-start, reached-over, reached-end}
 
 -- ---- the missing ones
@@ -50,39 +50,29 @@ pub record Seen (ws P : List ℕ) (w : Walk) (i : ℕ) : Type 0 where
   pub left : Ascends (w .from) (drop i P)
   pub within : i ≤ length P
 
-module _ (ws P : List ℕ) (S : Sound ws) where
+module _ {ws P : List ℕ} (S : Sound ws) where
   pub seen-start : Ascends 0 P → Seen ws P (walkAt 0 0 (reportOf [])) 0
   unfolding isIn
   seen-start a = record { reached = reached-start ws (isIn []) S (λ p h. refl); left = a; within = omega arith }
 
-  pub seen-more : (w : Walk) (i e : ℕ) → Words P → Seen ws P w i → i < length P → e ≡ min (getD P i 0 + 1) lastWord
-      → Seen ws P (overSpan ws w (getD P i 0) e) (i + 1)
-  seen-more w i e W N h is-e =
+  pub seen-more : {w v : Walk} {i e : ℕ} → Words P → Seen ws P w i → i < length P → e ≡ min (getD P i 0 + 1) lastWord
+      → v ≡ overSpan ws w (getD P i 0) e → Seen ws P v (i + 1)
+  seen-more {w} {i = i} {e = e} W N h is-e is-v =
       let p = getD P i 0 in
       let f : p ≤ lastWord = omega (arith, W .fits i) in
-      let up = rw (drop-cons P i 0 h) at (N .left) in record {
+      let up = rw (drop-cons P i 0 h) at (N .left) in
+      rw is-v (record {
         reached = reached-over ws (isIn (take i P)) w S (N .reached) p (up .0) f (isIn (take (i + 1) P)) e (omega arith) (omega arith)
             (λ q l. rw (add-one i, take-suc P i 0 h, in-append (take i P) (p ∷ []) q, single p q e l is-e));
         left = rw (add-one i) (ascends-weaken (suc p) e (drop (suc i) P) (omega arith) (up .1));
         within = omega arith;
-      }
+      })
 
-  pub seen-end : (w : Walk) (i : ℕ) → Words ws → Seen ws P w i → length P ≤ i
+  pub seen-end : {w : Walk} {i : ℕ} → Words ws → Seen ws P w i → length P ≤ i
       → reportUntil (pairsLeft ws w) w lastWord .report ≡ reportOf (missing (intervalsOf ws) P)
-  seen-end w i W N h = reached-end ws (isIn (take i P)) w P W S (N .reached) (λ p l. rw (take-all i P h))
+  seen-end {w} {i} W N h = reached-end ws (isIn (take i P)) w P W S (N .reached) (λ p l. rw (take-all i P h))
 
 -- ---- the extra ones
-
--- a turn of `first_past`: the pairs that are passed, with the next
-pub passed-more : (ws : List ℕ) (from i p : ℕ) → ((k : ℕ) → from ≤ k → k < i → finish ws k ≤ p) → finish ws i ≤ p
-    → (k : ℕ) → from ≤ k → k < i + 1 → finish ws k ≤ p
-passed-more ws from i p h l k a b = elim (decLt k i) [
-  | yes u ↦ h k a u
-  | no u ↦ let q : k ≡ i = omega arith in rw q l
-]
-
-ascends-member : (lo : ℕ) (L : List ℕ) (p : ℕ) → Ascends lo L → isIn L p ≡ true → lo ≤ p
-ascends-member lo L p a e = elim (decLt p lo) [ yes h ↦ absurd (true≢false (sym e ∙ in-below lo L p a h)) | no h ↦ omega arith ]
 
 -- after i of the positions: the report is theirs, and no pair that is passed ends above one of the others
 pub record Sorted (ws P : List ℕ) (report : PositionMismatch) (pair i : ℕ) : Type 0 where
@@ -91,12 +81,12 @@ pub record Sorted (ws P : List ℕ) (report : PositionMismatch) (pair i : ℕ) :
   pub left : Ascends 0 (drop i P)
   pub within : i ≤ length P
 
-module _ (ws P : List ℕ) (S : Sound ws) where
+module _ {ws P : List ℕ} (S : Sound ws) where
   pub sorted-start : Ascends 0 P → Sorted ws P (reportOf []) 0 0
   unfolding extra keep
   sorted-start a = record { shown = refl; passed = λ k h p e. absurd (omega arith); left = a; within = omega arith }
 
-  module _ (report : PositionMismatch) (pair i r : ℕ) (t : Bool) (N : Sorted ws P report pair i) (h : i < length P)
+  module _ {report : PositionMismatch} {pair i r : ℕ} {t : Bool} (N : Sorted ws P report pair i) (h : i < length P)
       (F : FirstPast ws pair (getD P i 0) r) (is-t : t ≡ ltb r (length ws / 2) && leb (start ws r) (getD P i 0)) where
     abbrev p : ℕ
     p = getD P i 0
@@ -137,13 +127,13 @@ module _ (ws P : List ℕ) (S : Sound ws) where
     unfolding extra
     few = omega (arith, keep-parts (λ q. not (holds (intervalsOf ws) q)) (take i P), length-take-le i P (omega arith))
 
-    pub sorted-extra : (report′ : PositionMismatch) → t ≡ false → length P ≤ lastWord → report′ ≡ withRun report p 1 → Sorted ws P report′ r (i + 1)
+    pub sorted-extra : {report′ : PositionMismatch} → t ≡ false → length P ≤ lastWord → report′ ≡ withRun report p 1 → Sorted ws P report′ r (i + 1)
     unfolding keep countUp
-    sorted-extra report′ e l is =
+    sorted-extra {report′} e l is =
         sorted-next report′
         (is ∙ ap (λ (x : PositionMismatch). withRun x p 1) (N .shown)
         ∙ run-report (extra (intervalsOf ws) (take i P)) p 1 (omega (arith, few))
         ∙ ap reportOf (sym (next ∙ rw (held, e))))
 
-  pub sorted-end : (report : PositionMismatch) (pair i : ℕ) → Sorted ws P report pair i → length P ≤ i → report ≡ reportOf (extra (intervalsOf ws) P)
-  sorted-end report pair i N h = N .shown ∙ rw (take-all i P h)
+  pub sorted-end : {report : PositionMismatch} {pair i : ℕ} → Sorted ws P report pair i → length P ≤ i → report ≡ reportOf (extra (intervalsOf ws) P)
+  sorted-end {i = i} N h = N .shown ∙ rw (take-all i P h)

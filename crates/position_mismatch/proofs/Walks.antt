@@ -16,7 +16,7 @@ use Rattle.intervals.proofs.Laws.{canonical→strict, holds-append, holds-below
 use Rattle.pairs_sort.specs.Pairs.{start, finish, pairsFrom, pairs}
 use Rattle.pairs_sort.proofs.Laws.{pairs-more, pairs-end, pairs-snoc, pairs-append}
 use Rattle.position_given.specs.Given.{intervalsOf}
-use Rattle.position_given.specs.Positions.{countUp, positionsOf}
+use Rattle.position_given.specs.Positions.{countUp, positionsOf, isIn}
 use Rattle.position_given.specs.Inner.{Sound, Ascends, lastWord}
 use Rattle.position_given.proofs.Rows.{positions-append}
 use Rattle.position_given.proofs.Apart.{apart-back}
@@ -26,9 +26,10 @@ use Rattle.position_report.specs.Reports.{reportOf}
 use Rattle.position_report.specs.Inner.{withRun}
 use Rattle.position_report.proofs.Runs.{run-report}
 use Rattle.position_mismatch.specs.declared.Walk.{Walk}
-use Rattle.position_mismatch.specs.Reports.{isIn, missing}
+use Rattle.position_mismatch.specs.Reports.{missing}
 use Rattle.position_mismatch.specs.Inner.{walkAt, withGap, reportUntil, pairsLeft, overSpan}
-use Rattle.position_mismatch.proofs.Positions.{in-append, in-keep, in-positions, ascends-keep, ascends-append, ascends-raise, ascends-positions, ascends-unique, length-ascends, keep-same, keep-none, keep-run}
+use Rattle.position_given.proofs.Positions.{in-append, in-keep, in-positions, keep-same, keep-none, keep-run}
+use Rattle.position_given.proofs.Positions.{ascends-keep, ascends-append, ascends-raise, ascends-positions, ascends-unique, length-ascends}
 
 -- ---- a turn
 
@@ -148,7 +149,12 @@ module _ (A : List Interval) (C : Canonical A) where
       (ascends-append 0 x (doneBy A g x) (keep (inside x s) (positionsOf A)) (omega arith) (done-ascends g x) (done-below g x)
       (ascends-raise 0 x (keep (inside x s) (positionsOf A)) (ascends-keep 0 (inside x s) (positionsOf A) ascending) from-x))
       (done-ascends g s)
-      (λ p. rw (in-append (doneBy A g x) (keep (inside x s) (positionsOf A)) p, in-keep (λ q. ltb q x && not (g q)) (positionsOf A) p, in-keep (inside x s) (positionsOf A) p, in-keep (λ q. ltb q s && not (g q)) (positionsOf A) p) (either p (isIn (positionsOf A) p)))
+      (λ p. rw (
+        in-append (doneBy A g x) (keep (inside x s) (positionsOf A)) p,
+        in-keep (λ q. ltb q x && not (g q)) (positionsOf A) p,
+        in-keep (inside x s) (positionsOf A) p,
+        in-keep (λ q. ltb q s && not (g q)) (positionsOf A) p,
+      ) (either p (isIn (positionsOf A) p)))
     where
       from-x : (p : ℕ) → isIn (keep (inside x s) (positionsOf A)) p ≡ true → x ≤ p
       from-x p e = elim (decLt p x) [

@@ -8,13 +8,13 @@ use lib.Dec.{leb, ltb}
 use Rattle.intervals.specs.Intervals.{Interval}
 use Rattle.item_check.specs.declared.Checked.{Checked}
 use Rattle.item_check.specs.declared.Checked.the-variants.{Accepted, Refused}
-use Rattle.item_check.specs.Checks.{answered, refused, Verdict}
+use Rattle.item_check.specs.Checks.{answered, refusedAs, refusal, Verdict}
 use Rattle.pairs_sort.specs.Pairs.{finish, pairsFrom}
 use Rattle.position_given.specs.Given.{intervalsVerdict}
 use Rattle.position_given.specs.Inner.{lastWord}
 use Rattle.position_report.specs.declared.PositionMismatch.{PositionMismatch}
-use Rattle.position_report.specs.Reports.{reportOf}
-use Rattle.position_report.specs.Inner.{reportAt, withRun}
+use Rattle.position_report.specs.Reports.{reportAt, reportOf}
+use Rattle.position_report.specs.Inner.{withRun}
 use Rattle.position_mismatch.specs.declared.Walk.{Walk}
 use Rattle.position_mismatch.specs.declared.gaps.Place.{Place}
 use Rattle.position_mismatch.specs.declared.SpanWalk.{SpanWalk}
@@ -57,7 +57,7 @@ pub record FirstPast (ws : List ℕ) (i p r : ℕ) : Type 0 where
 
 abbrev pub checkedOf : Verdict → Checked
 checkedOf (answered u) = Accepted
-checkedOf (refused n s i) = Refused (record { number = n; side = s; index = i })
+checkedOf (refusedAs r) = Refused r
 
 abbrev pub startOf : List ℕ → SpanWalk
 startOf ws = record { checked = checkedOf (intervalsVerdict ws); seen = 0; walk = walkAt 0 0 (reportOf []) }
@@ -67,7 +67,7 @@ abbrev pub stepOn : List ℕ → SpanWalk → ℕ → ℕ → SpanWalk
 stepOn ws w s e =
     cond (leb (w .walk .from) s && leb s e)
     (record { checked = Accepted; seen = min (w .seen + 1) lastWord; walk = overSpan ws (w .walk) s e })
-    (record { checked = Refused (record { number = 8; side = 1; index = w .seen }); seen = w .seen; walk = w .walk })
+    (record { checked = Refused (refusal 8 1 (w .seen)); seen = w .seen; walk = w .walk })
 
 -- once refused, it stays so
 abbrev pub stepFrom : Checked → List ℕ → SpanWalk → ℕ → ℕ → SpanWalk

@@ -1,24 +1,20 @@
 -- Which covered and proved positions are missing, extra and present; the check of spans; the answers of the calls that compare. Definitions
 -- only. Assumes nothing.
 use Prim.Native.Nat.{ℕ, suc}
+use mathlib.Core.Path.{_≡_}
 use mathlib.Core.List.{List, [], _∷_}
-use mathlib.Core.Bool.{Bool, false, cond, not, _&&_, _||_}
-use lib.Dec.{leb, eqb}
+use mathlib.Core.Bool.{cond, not, _&&_}
+use lib.Dec.{leb}
 use Rattle.intervals.specs.Lists.{keep}
 use Rattle.intervals.specs.Intervals.{Interval, holds}
-use Rattle.item_check.specs.Checks.{Answer, answered, refused, Verdict, accepted, andThen, verdictOf}
+use Rattle.item_check.specs.Checks.{Answer, answered, refused, refusedAs, Verdict, accepted, andThen, verdictOf}
 use Rattle.position_given.specs.Given.{intervalsOf, intervalsVerdict, provedVerdict}
-use Rattle.position_given.specs.Positions.{positionsOf}
+use Rattle.position_given.specs.Positions.{positionsOf, isIn}
 use Rattle.position_report.specs.declared.PositionMismatch.{PositionMismatch}
 use Rattle.position_report.specs.Reports.{reportOf}
 use Rattle.position_mismatch.specs.declared.Compared.{Compared}
 
 -- ---- positions
-
--- 01 m6.10: whether p stands in a list
-unfoldable pub isIn : List ℕ → ℕ → Bool
-isIn [] p = false
-isIn (q ∷ P) p = eqb p q || isIn P p
 
 -- 01 m6.10: missing: covered and not proved
 unfoldable pub missing : List Interval → List ℕ → List ℕ
@@ -61,4 +57,9 @@ comparedOf r = andThen (verdictOf (r .checked)) (answered (r .report))
 -- 01 form.4: the report that stands in an answer: the empty one where the call is refused
 abbrev pub reportIn : Answer PositionMismatch → PositionMismatch
 reportIn (answered report) = report
-reportIn (refused number side index) = reportOf []
+reportIn (refusedAs r) = reportOf []
+
+-- 01 m6.10, form.4, form.11: what a call that compares gives: the answer, and the report that stands in it
+pub record GivesCompared (r : Compared) (a : Answer PositionMismatch) : Type 0 where
+  pub answer : comparedOf r ≡ a
+  pub report : r .report ≡ reportIn a

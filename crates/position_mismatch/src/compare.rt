@@ -1,11 +1,10 @@
 // How covered and proved positions compare: which are missing, and which are extra.
 ghost use mathlib.Core.Path.{_≡_};
 ghost use mathlib.Core.List.{[]};
-ghost use Prim.Native.Nat.{_+_, min};
 ghost use Rattle.item_check.specs.Checks.{verdictOf, accepted};
 ghost use Rattle.position_given.specs.Given.{intervalsOf};
-ghost use Rattle.position_given.specs.Inner.{Sound, Ascends, lastWord};
-ghost use Rattle.position_mismatch.specs.Reports.{missing, extra, comparedOf, reportIn, missingAnswer, extraAnswer};
+ghost use Rattle.position_given.specs.Inner.{Sound, Ascends};
+ghost use Rattle.position_mismatch.specs.Reports.{missing, extra, GivesCompared, missingAnswer, extraAnswer};
 ghost use Rattle.position_report.specs.Reports.{reportOf};
 use crate::Compared;
 use crate::gaps::Place;
@@ -15,15 +14,16 @@ use crate::gaps::report_until;
 use crate::gaps::starts_by;
 use item_check::Checked;
 use position_given::LAST_WORD;
+use position_given::RowCount;
 use position_given::check_proved;
+use position_given::saturating_add;
 use position_report::Counted;
 use position_report::PositionMismatch;
 use position_report::push_one;
 
 // Which covered positions are not proved (01 m6.10, change.4).
 pub fn missing_from(intervals: &[u64], proved: &[u64]) -> Compared
-    ensures { λ r. ⌜ comparedOf r ≡ missingAnswer (now (intervals .entry)) (now (proved .entry)) ⌝ }
-    ensures { λ r. ⌜ r .report ≡ reportIn (missingAnswer (now (intervals .entry)) (now (proved .entry))) ⌝ }
+    ensures { λ r. ⌜ GivesCompared r (missingAnswer (now (intervals .entry)) (now (proved .entry))) ⌝ }
 {
     match check_proved(intervals, proved) {
         Checked::Refused(r) => without_report(Checked::Refused(r)),
@@ -33,8 +33,7 @@ pub fn missing_from(intervals: &[u64], proved: &[u64]) -> Compared
 
 // Which proved positions are not covered (01 m6.10, change.4).
 pub fn extra_in(intervals: &[u64], proved: &[u64]) -> Compared
-    ensures { λ r. ⌜ comparedOf r ≡ extraAnswer (now (intervals .entry)) (now (proved .entry)) ⌝ }
-    ensures { λ r. ⌜ r .report ≡ reportIn (extraAnswer (now (intervals .entry)) (now (proved .entry))) ⌝ }
+    ensures { λ r. ⌜ GivesCompared r (extraAnswer (now (intervals .entry)) (now (proved .entry))) ⌝ }
 {
     match check_proved(intervals, proved) {
         Checked::Refused(r) => without_report(Checked::Refused(r)),
@@ -60,7 +59,8 @@ pub(crate) fn without_report(checked: Checked) -> Compared
     Compared { checked, report }
 }
 
-// Walks along the intervals from one proved position to the next: each is a span of one. Linear in intervals and positions.
+// Walks along the intervals from one proved position to the next: each is a span of one, and the last u64, which nothing covers, an empty one.
+// Linear in intervals and positions.
 fn missing_positions(intervals: &[u64], proved: &[u64]) -> PositionMismatch
     requires sound { ⌜ Sound (now intervals) × Ascends 0 (now proved) ⌝ }
     ensures { λ r. ⌜ r ≡ reportOf (missing (intervalsOf (now (intervals .entry))) (now (proved .entry))) ⌝ }
@@ -75,25 +75,15 @@ fn missing_positions(intervals: &[u64], proved: &[u64]) -> PositionMismatch
     let mut i: usize = 0;
     while i < proved.len() {
         let p = proved[i];
-        place = over_span(intervals, &mut examples, place, p, after(p));
+        place = over_span(intervals, &mut examples, place, p, saturating_add(p, 1));
         i += 1;
     }
     let last = report_until(intervals, &mut examples, place, LAST_WORD);
     PositionMismatch {
-        total: last.total,
+        total: RowCount(last.total),
         count: last.count,
         examples,
     }
-}
-
-// The position after p, or p where it is the last u64, which nothing covers.
-fn after(p: u64) -> u64
-    ensures { λ r. ⌜ r ≡ min (p + 1) lastWord ⌝ }
-{
-    if p < LAST_WORD {
-        return p + 1;
-    }
-    p
 }
 
 // Asks of each proved position the first pair that ends above it. Linear in intervals and positions: the pair only moves on.
@@ -114,7 +104,7 @@ fn extra_positions(intervals: &[u64], proved: &[u64]) -> PositionMismatch
         }
     }
     PositionMismatch {
-        total: counted.total,
+        total: RowCount(counted.total),
         count: counted.count,
         examples,
     }

@@ -1,8 +1,9 @@
 // The core of `missing_from_spans`: a walk over spans, one start and end at a time, by value. `start`, a `step` for each span in order, and
-// `finish` give what `missing_from` gives on the positions that the spans contain: `spans-answer` in proofs/Laws.antt.
+// `finish` give what `missing_from` gives on the positions that the spans contain: `spans-answer` in proofs/Laws.antt. On spans as words in pairs
+// `missing_from_span_words` is the whole of it.
 ghost use mathlib.Core.Path.{_≡_};
-ghost use Prim.Native.Nat.{_+_, min};
-ghost use Rattle.position_given.specs.Inner.{lastWord};
+ghost use Rattle.position_given.specs.Given.{intervalsOf};
+ghost use Rattle.position_mismatch.specs.Reports.{GivesCompared, spansAnswer};
 ghost use Rattle.position_mismatch.specs.Inner.{startOf, stepOn, stepOf, finishOf};
 use crate::Compared;
 use crate::SpanWalk;
@@ -12,10 +13,26 @@ use crate::gaps::Place;
 use crate::gaps::over_span;
 use crate::gaps::report_until;
 use item_check::Checked;
-use item_check::Refusal;
+use item_check::refusal_of;
 use position_given::LAST_WORD;
+use position_given::RowCount;
 use position_given::check_intervals;
+use position_given::saturating_add;
 use position_report::PositionMismatch;
+
+// inner: which covered positions no span contains, of spans as words in pairs. An odd last word is no span (01 m6.11, form.9).
+pub fn missing_from_span_words(intervals: &[u64], spans: &[u64]) -> Compared
+    ensures { λ r. ⌜ GivesCompared r (spansAnswer (now (intervals .entry)) (intervalsOf (now (spans .entry)))) ⌝ }
+{
+    let count = spans.len() / 2;
+    let mut walk = start(intervals);
+    let mut i: usize = 0;
+    while i < count {
+        walk = step(intervals, walk, spans[2 * i], spans[2 * i + 1]);
+        i += 1;
+    }
+    finish(intervals, walk)
+}
 
 // inner: before the first span: the intervals are checked.
 pub fn start(intervals: &[u64]) -> SpanWalk
@@ -58,12 +75,12 @@ fn step_on(intervals: &[u64], so_far: SpanWalk, start: u64, end: u64) -> SpanWal
         let place = Place {
             pair: walk.pair,
             from: walk.from,
-            total: report.total,
+            total: report.total.0,
             count: report.count,
         };
         let next = over_span(intervals, &mut examples, place, start, end);
         let report = PositionMismatch {
-            total: next.total,
+            total: RowCount(next.total),
             count: next.count,
             examples,
         };
@@ -74,28 +91,15 @@ fn step_on(intervals: &[u64], so_far: SpanWalk, start: u64, end: u64) -> SpanWal
         };
         return SpanWalk {
             checked: Checked::Accepted,
-            seen: one_more(seen),
+            seen: saturating_add(seen as u64, 1) as usize,
             walk,
         };
     }
     SpanWalk {
-        checked: Checked::Refused(Refusal {
-            number: 8,
-            side: 1,
-            index: seen,
-        }),
+        checked: Checked::Refused(refusal_of(8, 1, seen)),
         seen,
         walk,
     }
-}
-
-fn one_more(n: usize) -> usize
-    ensures { λ r. ⌜ r ≡ min (n + 1) lastWord ⌝ }
-{
-    if n < LAST_WORD as usize {
-        return n + 1;
-    }
-    n
 }
 
 // inner: after the last span: what is left of the intervals is missing.
@@ -112,12 +116,12 @@ pub fn finish(intervals: &[u64], so_far: SpanWalk) -> Compared
             let place = Place {
                 pair: walk.pair,
                 from: walk.from,
-                total: report.total,
+                total: report.total.0,
                 count: report.count,
             };
             let last = report_until(intervals, &mut examples, place, LAST_WORD);
             let report = PositionMismatch {
-                total: last.total,
+                total: RowCount(last.total),
                 count: last.count,
                 examples,
             };

@@ -11,29 +11,13 @@ use borrow.Author.Tests.{lt-ltb, le-ltb, le-leb, lt-leb}
 use Rattle.intervals.specs.Intervals.{holds}
 use Rattle.pairs_sort.specs.Pairs.{start, finish}
 use Rattle.position_given.specs.Given.{intervalsOf}
+use Rattle.position_given.specs.Positions.{isIn}
 use Rattle.position_given.specs.Inner.{Sound, Ascends}
 use Rattle.position_given.proofs.Widths.{nonempty-at, ends-before}
 use Rattle.position_given.proofs.Held.{held-at}
-use Rattle.position_mismatch.specs.Reports.{isIn}
-use Rattle.position_mismatch.proofs.Positions.{in-at, in-gap, ascends-at}
+use Rattle.position_given.proofs.Positions.{in-at, in-gap, ascends-at}
 use Rattle.position_plan.specs.Inner.{isMissing, Ahead, LastRow, LastBelow, GoesBack}
 use Rattle.position_plan.proofs.Search.{missing-is}
-
--- ---- turns of the two passes over proved positions
-
-pub passed-back : (P : List ℕ) (to i x : ℕ) → ((k : ℕ) → i ≤ k → k < to → x ≤ getD P k 0) → 0 < i → x ≤ getD P (i - 1) 0
-    → (k : ℕ) → i - 1 ≤ k → k < to → x ≤ getD P k 0
-passed-back P to i x h s l k a b = elim (decLt k i) [
-  | yes u ↦ let q : i - 1 ≡ k = omega arith in rw q at l
-  | no u ↦ h k (omega arith) b
-]
-
-pub rows-back : (P : List ℕ) (to e i : ℕ) → ((k : ℕ) → i ≤ k → k < to → getD P k 0 + (to - k) ≡ e) → 0 < i
-    → getD P (i - 1) 0 + (to - (i - 1)) ≡ e → (k : ℕ) → i - 1 ≤ k → k < to → getD P k 0 + (to - k) ≡ e
-rows-back P to e i h s l k a b = elim (decLt k i) [
-  | yes u ↦ let q : i - 1 ≡ k = omega arith in rw q at l
-  | no u ↦ h k (omega arith) b
-]
 
 -- ---- a turn of the search
 

@@ -7,8 +7,8 @@ use Rattle.intervals.specs.Intervals.{inside, holds}
 use Rattle.item_check.specs.Checks.{answered, refused}
 use Rattle.pairs_sort.specs.Pairs.{pairsFrom}
 use Rattle.position_given.specs.Given.{canonicalVerdict, firstTouching, ascendingVerdict, firstFalling}
-use Rattle.position_given.specs.Positions.{countUp, positionsOf}
-use Rattle.position_mismatch.specs.Reports.{isIn, missing}
+use Rattle.position_given.specs.Positions.{countUp, positionsOf, isIn}
+use Rattle.position_mismatch.specs.Reports.{missing}
 use Rattle.position_plan.specs.Plans.{ascending, each, accepts, planFrom, plan, planAnswer, checkAnswer}
 
 -- ---- our planner

@@ -6,10 +6,12 @@ use mathlib.Core.List.{List, [], _∷_}
 use native.Mathlib.Decide.{ℕ-discrete}
 use lib.Dec.{leb, ltb}
 use borrow.Author.Tests.{leb-true, ltb-true, le-leb, lt-ltb}
-use Rattle.intervals.specs.Intervals.{Interval, Above, Strict, holds}
+use Rattle.intervals.specs.Intervals.{Interval, holds}
+use Rattle.intervals.proofs.Model.{Above, Strict}
 use Rattle.intervals.proofs.Laws.{All}
-use Rattle.position_mismatch.specs.Reports.{isIn}
-use Rattle.position_mismatch.proofs.Positions.{in-head, in-tail, in-later}
+use Rattle.key_order.proofs.Bools.{both-true}
+use Rattle.position_given.specs.Positions.{isIn}
+use Rattle.position_given.proofs.Positions.{in-head, in-tail, in-later}
 use Rattle.position_plan.specs.Plans.{ascending, narrow, begins, ends, each, accepts}
 
 -- 02 §9.2: the plan Q for the missing rows M
@@ -22,27 +24,20 @@ pub record GoodPlan (W : ℕ) (M : List ℕ) (Q : List Interval) : Type 0 where
 
 -- ---- tests and facts
 
-both : (a b : Bool) → a && b ≡ true → (a ≡ true) × (b ≡ true)
-both true b e = (refl, e)
-both false b e = absurd (false≢true e)
-
-join : (a b : Bool) → a ≡ true → b ≡ true → a && b ≡ true
-join a b p q = rw (p, q)
-
 each-all : {A : Type 0} (f : A → Bool) (L : List A) → each f L ≡ true → All (λ a. f a ≡ true) L
 unfolding each
 each-all f [] h = tt
-each-all f (a ∷ L) h = let k = both (f a) (each f L) h in (k .0, each-all f L (k .1))
+each-all f (a ∷ L) h = let k = both-true (f a) (each f L) h in (k .0, each-all f L (k .1))
 
 all-each : {A : Type 0} (f : A → Bool) (L : List A) → All (λ a. f a ≡ true) L → each f L ≡ true
 unfolding each
 all-each f [] h = refl
-all-each f (a ∷ L) h = join (f a) (each f L) (h .0) (all-each f L (h .1))
+all-each f (a ∷ L) h = rw (h .0) (all-each f L (h .1))
 
 each-in : (f : ℕ → Bool) (M : List ℕ) → each f M ≡ true → (p : ℕ) → isIn M p ≡ true → f p ≡ true
 unfolding each
 each-in f [] h p i = absurd (false≢true (unfold isIn in i))
-each-in f (q ∷ M) h p i = let k = both (f q) (each f M) h in elim (ℕ-discrete p q) [
+each-in f (q ∷ M) h p i = let k = both-true (f q) (each f M) h in elim (ℕ-discrete p q) [
   | yes e ↦ rw e (k .0)
   | no e ↦ each-in f M (k .1) p (sym (in-tail q p M e) ∙ i)
 ]
@@ -50,14 +45,14 @@ each-in f (q ∷ M) h p i = let k = both (f q) (each f M) h in elim (ℕ-discret
 in-each : (f : ℕ → Bool) (M : List ℕ) → ((p : ℕ) → isIn M p ≡ true → f p ≡ true) → each f M ≡ true
 unfolding each
 in-each f [] h = refl
-in-each f (q ∷ M) h = join (f q) (each f M) (h q (in-head q M)) (in-each f M (λ p i. h p (in-later q p M i)))
+in-each f (q ∷ M) h = rw (h q (in-head q M)) (in-each f M (λ p i. h p (in-later q p M i)))
 
 ascending-above : (e : ℕ) (Q : List Interval) → ascending e Q ≡ true → Above e Q
 unfolding ascending
 ascending-above e [] h = tt
 ascending-above e (w ∷ Q) h =
-    let k = both (leb e (w .0) && ltb (w .0) (w .1)) (ascending (w .1) Q) h in
-    let l = both (leb e (w .0)) (ltb (w .0) (w .1)) (k .0) in
+    let k = both-true (leb e (w .0) && ltb (w .0) (w .1)) (ascending (w .1) Q) h in
+    let l = both-true (leb e (w .0)) (ltb (w .0) (w .1)) (k .0) in
     (leb-true e (w .0) (l .0), ltb-true (w .0) (w .1) (l .1), ascending-above (w .1) Q (k .1))
 
 above-ascending : (e : ℕ) (Q : List Interval) → Above e Q → ascending e Q ≡ true
@@ -68,7 +63,7 @@ above-ascending e (w ∷ Q) h = rw (le-leb e (w .0) (h .0), lt-ltb (w .0) (w .1)
 narrow-few : (W : ℕ) (Q : List Interval) → each (narrow W) Q ≡ true → All (λ w. w .1 - w .0 ≤ W) Q
 unfolding each
 narrow-few W [] h = tt
-narrow-few W (w ∷ Q) h = let k = both (narrow W w) (each (narrow W) Q) h in (leb-true (w .1 - w .0) W (k .0), narrow-few W Q (k .1))
+narrow-few W (w ∷ Q) h = let k = both-true (narrow W w) (each (narrow W) Q) h in (leb-true (w .1 - w .0) W (k .0), narrow-few W Q (k .1))
 
 few-narrow : (W : ℕ) (Q : List Interval) → All (λ w. w .1 - w .0 ≤ W) Q → each (narrow W) Q ≡ true
 unfolding each
@@ -80,10 +75,10 @@ few-narrow W (w ∷ Q) h = rw (le-leb (w .1 - w .0) W (h .0)) (few-narrow W Q (h
 module _ (W : ℕ) (M : List ℕ) (Q : List Interval) where
   pub accepts-good : accepts W M Q ≡ true → GoodPlan W M Q
   accepts-good h =
-      let k4 = both (ascending 0 Q && each (narrow W) Q && each (begins M) Q && each (ends M) Q) (each (holds Q) M) h in
-      let k3 = both (ascending 0 Q && each (narrow W) Q && each (begins M) Q) (each (ends M) Q) (k4 .0) in
-      let k2 = both (ascending 0 Q && each (narrow W) Q) (each (begins M) Q) (k3 .0) in
-      let k1 = both (ascending 0 Q) (each (narrow W) Q) (k2 .0) in record {
+      let k4 = both-true (ascending 0 Q && each (narrow W) Q && each (begins M) Q && each (ends M) Q) (each (holds Q) M) h in
+      let k3 = both-true (ascending 0 Q && each (narrow W) Q && each (begins M) Q) (each (ends M) Q) (k4 .0) in
+      let k2 = both-true (ascending 0 Q && each (narrow W) Q) (each (begins M) Q) (k3 .0) in
+      let k1 = both-true (ascending 0 Q) (each (narrow W) Q) (k2 .0) in record {
         ascend = ascending-above 0 Q (k1 .0);
         narrow = narrow-few W Q (k1 .1);
         begin = each-all (begins M) Q (k2 .1);

@@ -8,21 +8,19 @@ use native.Mathlib.Omega.{arith}
 use lib.ListN.{length}
 use borrow.Author.Tests.{lt-ltb, le-ltb}
 use Rattle.intervals.specs.Lists.{keep}
-use Rattle.intervals.specs.Intervals.{Interval, Above, inside, holds}
+use Rattle.intervals.specs.Intervals.{Interval, inside, holds}
+use Rattle.intervals.proofs.Model.{Above}
 use Rattle.intervals.proofs.Members.{where-is, below, in-it, past, inside-yes, inside-below, inside-past}
+use Rattle.intervals.proofs.Unique.{holds-head}
 use Rattle.intervals.proofs.Ordered.{above-le}
 use Rattle.intervals.proofs.Laws.{All}
+use Rattle.position_given.specs.Positions.{isIn}
 use Rattle.position_given.specs.Inner.{Ascends}
-use Rattle.position_mismatch.specs.Reports.{isIn}
-use Rattle.position_mismatch.proofs.Positions.{in-keep, in-head, in-tail, in-later}
+use Rattle.position_given.proofs.Positions.{in-keep, in-head, in-tail, in-later}
 use Rattle.position_plan.specs.Plans.{planFrom, plan}
 use Rattle.position_plan.proofs.Good.{GoodPlan}
 
 -- ---- lists
-
-pub holds-first : (w : Interval) (L : List Interval) (p : ℕ) → w .0 ≤ p → p < w .1 → holds (w ∷ L) p ≡ true
-unfolding holds
-holds-first w L p h k = rw (inside-yes (w .0) (w .1) p h k)
 
 pub holds-later : (w : Interval) (L : List Interval) (p : ℕ) → holds L p ≡ true → holds (w ∷ L) p ≡ true
 unfolding holds
@@ -50,7 +48,7 @@ opened W f s e [] w l n b d a m = record {
   narrow = (omega arith, tt);
   begin = (b, tt);
   end = (d, tt);
-  held = λ p h k. holds-first (s, e) [] p h k;
+  held = λ p h k. holds-head (s, e) [] p h k;
   contain = λ p h. absurd (false≢true h);
 }
 opened W f s e (p ∷ M) w l n b d a m = elim (decLt p (s + W)) [
@@ -77,7 +75,7 @@ opened W f s e (p ∷ M) w l n b d a m = elim (decLt p (s + W)) [
         narrow = (omega arith, more .narrow);
         begin = (b, more .begin);
         end = (d, more .end);
-        held = λ q j k. holds-first (s, e) L q j k;
+        held = λ q j k. holds-head (s, e) L q j k;
         contain = λ q j. elim (ℕ-discrete q p) [
           | yes k ↦ holds-later (s, e) L q (more .held q (omega arith) (omega arith))
           | no k ↦ holds-later (s, e) L q (more .contain q (in-other p q M k j))

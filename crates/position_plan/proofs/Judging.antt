@@ -7,19 +7,24 @@ use native.Mathlib.Decide.{decLt}
 use native.Mathlib.Omega.{arith}
 use lib.Dec.{leb, ltb, eqb}
 use borrow.Author.Tests.{eq-eqb, eqb-true, lt-ltb, ltb-true, le-leb, lt-leb}
-use Rattle.intervals.specs.Intervals.{Interval, Above, holds}
+use Rattle.intervals.specs.Intervals.{Interval, holds}
+use Rattle.intervals.proofs.Model.{Above}
+use Rattle.intervals.proofs.Model.{Above}
+use Rattle.intervals.proofs.Unique.{holds-head}
 use Rattle.intervals.proofs.Members.{inside-below, inside-past}
 use Rattle.intervals.proofs.Ordered.{above-le}
 use Rattle.intervals.proofs.Laws.{All}
 use Rattle.pairs_sort.specs.Pairs.{start, finish, pairsFrom}
 use Rattle.pairs_sort.proofs.Laws.{pairs-more, pairs-end}
+use Rattle.key_order.proofs.Bools.{both-true}
 use Rattle.position_given.specs.Given.{intervalsOf}
-use Rattle.position_mismatch.specs.Reports.{isIn, missing}
+use Rattle.position_given.specs.Positions.{isIn}
+use Rattle.position_mismatch.specs.Reports.{missing}
 use Rattle.position_plan.specs.declared.runs.Run.{Run}
 use Rattle.position_plan.specs.Plans.{accepts}
 use Rattle.position_plan.specs.Inner.{isMissing, AtRun, NextRun}
 use Rattle.position_plan.proofs.Good.{GoodPlan, good-accepts, not-good}
-use Rattle.position_plan.proofs.Greedy.{holds-first, holds-later}
+use Rattle.position_plan.proofs.Greedy.{holds-later}
 
 -- ---- a plan for the missing rows from row x on
 
@@ -78,7 +83,7 @@ module _ (W : ℕ) (f : ℕ → Bool) (x : ℕ) where
       contain = λ p h k. elim (decLt p s) [
         | yes u ↦ absurd (true≢false (sym k ∙ n p h u))
         | no u ↦ elim (decLt p e) [
-          | yes v ↦ holds-first (s, e) Q p (omega arith) v
+          | yes v ↦ holds-head (s, e) Q p (omega arith) v
           | no v ↦ holds-later (s, e) Q p (A .contain p (omega arith) k)
         ]
       ];
@@ -126,11 +131,7 @@ module _ (W : ℕ) (M : List ℕ) (Q : List Interval) where
 
 -- as it is asked
 pub is-at : (r : Run) (y : ℕ) → eqb (r .start) y && ltb (r .start) (r .end) ≡ true → (r .start ≡ y) × (r .start < r .end)
-is-at r y h = go (eqb (r .start) y) refl h
-  where
-    go : (t : Bool) → eqb (r .start) y ≡ t → t && ltb (r .start) (r .end) ≡ true → (r .start ≡ y) × (r .start < r .end)
-    go true p q = (eqb-true (r .start) y p, ltb-true (r .start) (r .end) q)
-    go false p q = absurd (false≢true q)
+is-at r y h = let b = both-true (eqb (r .start) y) (ltb (r .start) (r .end)) h in (eqb-true (r .start) y (b .0), ltb-true (r .start) (r .end) (b .1))
 
 at-is : (r : Run) (y : ℕ) → r .start ≡ y → r .start < r .end → eqb (r .start) y && ltb (r .start) (r .end) ≡ true
 at-is r y e l = rw (eq-eqb (r .start) y e, lt-ltb (r .start) (r .end) l)

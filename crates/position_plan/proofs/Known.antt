@@ -9,9 +9,10 @@ use lib.ListN.{length}
 use lib.Dec.{leb, eqb}
 use borrow.Author.Tests.{le-leb, leb-true, leb-false, lt-ltb, le-ltb, eqb-false}
 use Rattle.intervals.specs.Intervals.{Interval}
+use Rattle.item_check.specs.declared.Refusal.{Refusal}
 use Rattle.item_check.specs.declared.Checked.{Checked}
 use Rattle.item_check.specs.declared.Checked.the-variants.{Accepted}
-use Rattle.item_check.specs.Checks.{Answer, answered, refused, Verdict, accepted, andThen, verdictOf}
+use Rattle.item_check.specs.Checks.{Answer, answered, refused, refusedAs, Verdict, accepted, andThen, verdictOf}
 use Rattle.item_check.proofs.Laws.{accepts, answers}
 use Rattle.position_given.specs.Given.{intervalsOf, evenVerdict, intervalsVerdict, ascendingVerdict}
 use Rattle.position_given.specs.Positions.{positionsOf}
@@ -73,20 +74,20 @@ module _ (room : ℕ) (windows : List Interval) where
 
 module _ (ws P : List ℕ) (W : ℕ) (old : List ℕ) where
   -- the intervals are refused
-  pub intervals-refused : (n s i : ℕ) → refused n s i ≡ lenAnswer ws → PlanRefetch ws P W old (refused n s i) old
-  intervals-refused n s i e = let h = go (intervalsVerdict ws) e in record { answer = rw h; words = rw h }
+  pub intervals-refused : (r : Refusal) → refusedAs r ≡ lenAnswer ws → PlanRefetch ws P W old (refusedAs r) old
+  intervals-refused r e = let h = go (intervalsVerdict ws) e in record { answer = rw h; words = rw h }
     where
-      go : (v : Verdict) → refused n s i ≡ andThen v (answered (length (positionsOf (intervalsOf ws)))) → v ≡ refused n s i
+      go : (v : Verdict) → refusedAs r ≡ andThen v (answered (length (positionsOf (intervalsOf ws)))) → v ≡ refusedAs r
       go (answered u) e = cc
-      go (refused m t j) e = cc
+      go (refusedAs r) e = cc
 
   module _ (rows : ℕ) (counted : answered rows ≡ lenAnswer ws) where
     intervals-accepted : intervalsVerdict ws ≡ accepted
     intervals-accepted = answers (intervalsVerdict ws) (answered (length (positionsOf (intervalsOf ws)))) rows (sym counted) .0
 
     -- what is asked is refused
-    pub asked-refused : (n s i : ℕ) → refused n s i ≡ askedVerdict P W → PlanRefetch ws P W old (refused n s i) old
-    asked-refused n s i e = record { answer = rw (intervals-accepted, ← e); words = rw (intervals-accepted, ← e) }
+    pub asked-refused : (r : Refusal) → refusedAs r ≡ askedVerdict P W → PlanRefetch ws P W old (refusedAs r) old
+    asked-refused r e = record { answer = rw (intervals-accepted, ← e); words = rw (intervals-accepted, ← e) }
 
     -- nothing but the room can be
     pub asked-accepted : (r : Answer ℕ) (new : List ℕ) → accepted ≡ askedVerdict P W → PlanGiven ws P W old r new → PlanRefetch ws P W old r new

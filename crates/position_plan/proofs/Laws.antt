@@ -10,19 +10,21 @@ use native.Mathlib.Omega.{arith}
 use lib.ListN.{length, take, drop}
 use lib.Seq.{sets-eq, take-at}
 use borrow.Author.Tests.{le-leb, eq-eqb, lt-ltb, le-ltb}
-use Rattle.intervals.specs.Intervals.{Interval, Above, holds}
+use Rattle.key_order.proofs.Impossible.{impossible}
+use Rattle.intervals.specs.Intervals.{Interval, holds}
+use Rattle.intervals.proofs.Model.{Above}
 use Rattle.intervals.proofs.Laws.{All}
-use Rattle.item_check.specs.Checks.{Answer, answered, refused, accepted}
+use Rattle.item_check.specs.Checks.{Answer, answered, refusedAs, refusal, accepted}
 use Rattle.item_check.proofs.Laws.{refused-apart, answers}
 use Rattle.item_check.proofs.Laws.{accepts as both}
 use Rattle.pairs_sort.specs.Pairs.{flatPairs}
 use Rattle.pairs_sort.proofs.Laws.{pairs-length, length-flat}
 use Rattle.position_given.specs.Given.{intervalsOf, intervalsVerdict}
-use Rattle.position_given.specs.Positions.{positionsOf}
+use Rattle.position_given.specs.Positions.{positionsOf, isIn}
 use Rattle.position_given.proofs.Accepted.{never-accepted}
 use Rattle.position_given.proofs.Fronts.{flat-intervals}
-use Rattle.position_mismatch.specs.Reports.{isIn, missing, firstCrossing}
-use Rattle.position_mismatch.proofs.Positions.{in-positions}
+use Rattle.position_mismatch.specs.Reports.{missing, firstCrossing}
+use Rattle.position_given.proofs.Positions.{in-positions}
 use Rattle.position_plan.specs.declared.Planned.{Planned}
 use Rattle.position_plan.specs.declared.Planned.the-variants as planned
 use Rattle.position_plan.specs.Plans.{accepts, plan, planOf, askedVerdict, planVerdict, checkVerdict, roomVerdict}
@@ -93,12 +95,12 @@ module _ (ws P : List ℕ) (W : ℕ) (old : List ℕ) (n : ℕ) where
     where
       fits : roomVerdict (length old / 2) L ≡ accepted → length L ≤ length old / 2
       fits h = elim (decLt (length old / 2) (length L)) [
-        | yes l ↦ never-accepted {n = 6} {s = 0} {i = 0} (rw (lt-ltb (length old / 2) (length L) l) at h)
+        | yes l ↦ never-accepted {r = refusal 6 0 0} (rw (lt-ltb (length old / 2) (length L) l) at h)
         | no l ↦ omega arith
       ]
 
       go : (x : Answer (List Interval)) → planAnswer ws P W (length old / 2) ≡ x → answered n ≡ countIn x → Answered ws P W old n
-      go (refused m s i) q e = let z : _≡_ {A = ℕ} 0 1 = cc in absurd (omega arith)
+      go (refusedAs r) q e = impossible cc
       go (answered Q) q e =
           let given = answers (planVerdict ws P W) (fitted (length old / 2) L) Q q in
           let room = answers (roomVerdict (length old / 2) L) (answered L) Q (given .1) in

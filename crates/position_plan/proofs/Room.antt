@@ -9,6 +9,7 @@ use native.Mathlib.Nat.{lt-mul-div-succ, le-div-iff-mul-le, div-mul-le-self, add
 use native.Mathlib.Omega.{arith}
 use lib.ListN.{length, length-append}
 use Rattle.intervals.specs.Intervals.{Interval, holds}
+use Rattle.intervals.proofs.Unique.{holds-head}
 use Rattle.intervals.proofs.Members.{where-is, below, in-it, past, inside-below, inside-past}
 use Rattle.intervals.proofs.Laws.{All, all-append, holds-append}
 use Rattle.pairs_sort.proofs.Laws.{pairs-length}
@@ -19,7 +20,7 @@ use Rattle.position_mismatch.specs.Reports.{missing}
 use Rattle.position_plan.specs.Plans.{planOf}
 use Rattle.position_plan.specs.Inner.{Plannable}
 use Rattle.position_plan.proofs.Search.{missing-held}
-use Rattle.position_plan.proofs.Greedy.{holds-first, holds-later, plan-fewest}
+use Rattle.position_plan.proofs.Greedy.{holds-later, plan-fewest}
 use Rattle.position_plan.proofs.Opening.{rows-ascend}
 
 -- k windows of W rows, one after another, from s on
@@ -47,7 +48,7 @@ tiles-length W s (suc k) = ap suc (tiles-length W (s + W) k)
 tiles-hold : (W s k p : ℕ) → s ≤ p → p < s + k * W → holds (tiles W s k) p ≡ true
 tiles-hold W s zero p a b = absurd (omega arith)
 tiles-hold W s (suc k) p a b = elim (decLt p (s + W)) [
-  | yes h ↦ holds-first (s, s + W) (tiles W (s + W) k) p a h
+  | yes h ↦ holds-head (s, s + W) (tiles W (s + W) k) p a h
   | no h ↦ holds-later (s, s + W) (tiles W (s + W) k) p (tiles-hold W (s + W) k p (omega arith) (omega (arith, more)))
 ]
   where

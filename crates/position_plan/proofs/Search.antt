@@ -1,7 +1,7 @@
 -- The search for the next run of missing rows: what a pair, the first proved position from a row on, and the positions that go on from there tell.
 -- Assumes nothing.
 use Prim.Native.Nat.{ℕ, _+_, _-_, _/_, _≤_, _<_, min, max}
-use mathlib.Core.Path.{_≡_, refl, sym, ap, _∙_}
+use mathlib.Core.Path.{_≡_, sym, ap, _∙_}
 use mathlib.Core.Bool.{Bool, true, false, cond, not, _&&_, and-false, true≢false, false≢true}
 use mathlib.Core.List.{List}
 use native.Mathlib.Decide.{decLt, ℕ-discrete}
@@ -11,13 +11,14 @@ use lib.Dec.{leb, ltb, eqb}
 use borrow.Author.Tests.{lt-ltb, le-ltb, le-leb, lt-leb, eq-eqb, eqb-true, not-false}
 use Rattle.intervals.specs.Intervals.{holds}
 use Rattle.pairs_sort.specs.Pairs.{start, finish}
+use Rattle.key_order.proofs.Bools.{both-true}
 use Rattle.position_given.specs.Given.{intervalsOf}
-use Rattle.position_given.specs.Positions.{positionsOf}
+use Rattle.position_given.specs.Positions.{positionsOf, isIn}
 use Rattle.position_given.specs.Inner.{Sound, Ascends}
 use Rattle.position_given.proofs.Widths.{nonempty-at, ends-before}
 use Rattle.position_given.proofs.Held.{held-at}
-use Rattle.position_mismatch.specs.Reports.{isIn, missing}
-use Rattle.position_mismatch.proofs.Positions.{in-keep, in-positions, in-at, in-gap, ascends-at}
+use Rattle.position_mismatch.specs.Reports.{missing}
+use Rattle.position_given.proofs.Positions.{in-keep, in-positions, in-at, in-gap, ascends-at}
 use Rattle.position_plan.specs.Inner.{isMissing, Behind, NextRun, FirstFrom, GoesOn}
 
 pub missing-is : (ws P : List ℕ) (p : ℕ) → isMissing ws P p ≡ holds (intervalsOf ws) p && not (isIn P p)
@@ -26,27 +27,9 @@ missing-is ws P p = in-keep (λ q. not (isIn P q)) (positionsOf (intervalsOf ws)
 
 -- a missing row is covered
 pub missing-held : (ws P : List ℕ) (p : ℕ) → isMissing ws P p ≡ true → holds (intervalsOf ws) p ≡ true
-missing-held ws P p h = left (holds (intervalsOf ws) p) (not (isIn P p)) (sym (missing-is ws P p) ∙ h)
-  where
-    left : (t u : Bool) → t && u ≡ true → t ≡ true
-    left true u e = refl
-    left false u e = absurd (false≢true e)
+missing-held ws P p h = both-true (holds (intervalsOf ws) p) (not (isIn P p)) (sym (missing-is ws P p) ∙ h) .0
 
--- ---- turns of the two passes over proved positions
-
-pub below-more : (P : List ℕ) (from i x : ℕ) → ((k : ℕ) → from ≤ k → k < i → getD P k 0 < x) → getD P i 0 < x
-    → (k : ℕ) → from ≤ k → k < i + 1 → getD P k 0 < x
-below-more P from i x h l k a b = elim (decLt k i) [
-  | yes u ↦ h k a u
-  | no u ↦ let q : k ≡ i = omega arith in rw q l
-]
-
-pub rows-more : (P : List ℕ) (from s i : ℕ) → ((k : ℕ) → from ≤ k → k < i → (k < length P) × (getD P k 0 ≡ s + (k - from)))
-    → i < length P → getD P i 0 ≡ s + (i - from) → (k : ℕ) → from ≤ k → k < i + 1 → (k < length P) × (getD P k 0 ≡ s + (k - from))
-rows-more P from s i h l e k a b = elim (decLt k i) [
-  | yes u ↦ h k a u
-  | no u ↦ let q : k ≡ i = omega arith in rw q (l, e)
-]
+-- ---- the passes over proved positions
 
 -- what is asked of row x, with the end e of its pair and the position v
 

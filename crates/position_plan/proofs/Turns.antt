@@ -2,18 +2,19 @@
 use Prim.Native.Nat.{ℕ, suc, _+_, _-_, _≤_, _<_}
 use mathlib.Core.Path.{_≡_, refl, sym, ap, _∙_}
 use mathlib.Core.Logic.{_⊎_, inl, inr}
-use mathlib.Core.Bool.{Bool, true, false, _&&_, and-false, and-true, false≢true, true≢false}
+use mathlib.Core.Bool.{Bool, true, false, _&&_, and-false, false≢true, true≢false}
 use mathlib.Core.List.{List, [], _∷_}
 use native.Mathlib.Decide.{decLt, ℕ-discrete}
 use native.Mathlib.Omega.{arith}
 use lib.ListN.{length}
 use lib.Dec.{leb, ltb}
-use borrow.Author.Tests.{lt-ltb, le-ltb, le-leb, lt-leb}
+use borrow.Author.Tests.{lt-ltb, le-ltb, le-leb, lt-leb, leb-true}
 use Rattle.intervals.specs.Lists.{keep}
+use Rattle.key_order.proofs.Bools.{both-true}
+use Rattle.position_given.specs.Positions.{isIn}
 use Rattle.position_given.specs.Inner.{Ascends}
-use Rattle.position_mismatch.specs.Reports.{isIn}
-use Rattle.position_mismatch.proofs.Positions.{in-keep, in-head, in-tail, in-later, in-below, keep-same, keep-keep, keep-none}
-use Rattle.position_mismatch.proofs.Positions.{ascends-keep, ascends-raise, ascends-unique}
+use Rattle.position_given.proofs.Positions.{in-keep, in-head, in-tail, in-later, keep-same, keep-keep, keep-none, keep-all}
+use Rattle.position_given.proofs.Positions.{ascends-keep, ascends-raise, ascends-member, ascends-unique}
 use Rattle.position_plan.specs.Plans.{planFrom, plan}
 use Rattle.position_plan.specs.Inner.{leftFrom}
 
@@ -25,16 +26,10 @@ module _ (M : List ℕ) (A : Ascends 0 M) where
   in-left x p = in-keep (leb x) M p
 
   pub left-ascends : (x : ℕ) → Ascends x (leftFrom x M)
-  left-ascends x = ascends-raise 0 x (leftFrom x M) (unfold leftFrom in ascends-keep 0 (leb x) M A) (λ p e. low x p (isIn M p) (sym (in-left x p) ∙ e))
-    where
-      low : (x p : ℕ) (t : Bool) → t && leb x p ≡ true → x ≤ p
-      low x p t e = elim (decLt p x) [
-        | yes h ↦ absurd (false≢true (sym (and-false t) ∙ sym (ap (λ (u : Bool). t && u) (lt-leb x p h)) ∙ e))
-        | no h ↦ omega arith
-      ]
+  left-ascends x = ascends-raise 0 x (leftFrom x M) (unfold leftFrom in ascends-keep 0 (leb x) M A) (λ p e. leb-true x p (both-true (isIn M p) (leb x p) (sym (in-left x p) ∙ e) .1))
 
   pub left-all : leftFrom 0 M ≡ M
-  left-all = ascends-unique 0 0 (leftFrom 0 M) M (left-ascends 0) A (λ p. in-left 0 p ∙ rw (le-leb 0 p (omega arith), and-true))
+  left-all = unfold leftFrom in keep-all (leb 0) M (λ p e. le-leb 0 p (omega arith))
 
   pub left-none : (x : ℕ) → ((p : ℕ) → x ≤ p → isIn M p ≡ false) → leftFrom x M ≡ []
   unfolding leftFrom
@@ -97,19 +92,10 @@ lastOf d (p ∷ L) = lastOf p L
 -- all of a list from x on is kept, and nothing of it is below x
 module _ (x lo : ℕ) (h : x ≤ lo) where
   kept : (L : List ℕ) → Ascends lo L → keep (leb x) L ≡ L
-  kept L a = ascends-unique lo lo (keep (leb x) L) L (ascends-keep lo (leb x) L a) a (λ p. in-keep (leb x) L p ∙ same p)
-    where
-      same : (p : ℕ) → isIn L p && leb x p ≡ isIn L p
-      same p = elim (decLt p lo) [
-        | yes l ↦ rw (in-below lo L p a l)
-        | no l ↦ rw (le-leb x p (omega arith), and-true)
-      ]
+  kept L a = keep-all (leb x) L (λ p e. le-leb x p (omega (arith, ascends-member lo L p a e)))
 
   left-out : (L : List ℕ) → Ascends lo L → keep (λ q. ltb q x) L ≡ []
-  left-out L a = keep-none (λ q. ltb q x) L (λ p e. elim (decLt p lo) [
-    | yes l ↦ absurd (true≢false (sym e ∙ in-below lo L p a l))
-    | no l ↦ le-ltb p x (omega arith)
-  ])
+  left-out L a = keep-none (λ q. ltb q x) L (λ p e. le-ltb p x (omega (arith, ascends-member lo L p a e)))
 
 -- the window that is open at s, and has the rows up to d, ends behind the last missing row within W; the others are planned by themselves
 window-from : (W s d lo : ℕ) (L : List ℕ) → Ascends lo L

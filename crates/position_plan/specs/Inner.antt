@@ -12,9 +12,9 @@ use Rattle.intervals.specs.Intervals.{Interval}
 use Rattle.item_check.specs.Checks.{Answer}
 use Rattle.pairs_sort.specs.Pairs.{start, finish, flatPairs}
 use Rattle.position_given.specs.Given.{intervalsOf}
-use Rattle.position_given.specs.Positions.{positionsOf}
+use Rattle.position_given.specs.Positions.{positionsOf, isIn}
 use Rattle.position_given.specs.Inner.{Sound, Ascends}
-use Rattle.position_mismatch.specs.Reports.{isIn, missing}
+use Rattle.position_mismatch.specs.Reports.{missing}
 use Rattle.position_plan.specs.declared.runs.Run.{Run}
 use Rattle.position_plan.specs.declared.windows.Window.{Window}
 use Rattle.position_plan.specs.Plans.{plan, planOf, fitted, countIn, writtenIn}

@@ -11,7 +11,8 @@ use Rattle.intervals.specs.Intervals.{Interval, holds}
 use Rattle.item_check.specs.Checks.{Answer, answered, refused, refusedAs, Verdict, accepted, andThen}
 use Rattle.pairs_sort.specs.Pairs.{flatPairs}
 use Rattle.position_given.specs.Given.{intervalsOf, evenVerdict, intervalsVerdict, ascendingVerdict}
-use Rattle.position_mismatch.specs.Reports.{isIn, missing}
+use Rattle.position_given.specs.Positions.{isIn}
+use Rattle.position_mismatch.specs.Reports.{missing}
 use Rattle.position_plan.specs.declared.Planned.{Planned}
 use Rattle.position_plan.specs.declared.Planned.the-variants.{Windows, Refused}
 
@@ -101,12 +102,12 @@ planAnswer ws proved W room = andThen (planVerdict ws proved W) (fitted room (pl
 -- 02 §9.7: how many windows it has written
 abbrev pub countIn : Answer (List Interval) → Answer ℕ
 countIn (answered windows) = answered (length windows)
-countIn (refused number side index) = refused number side index
+countIn (refusedAs r) = refusedAs r
 
 -- 02 §9.7, 01 refusal.5: what is lent has the windows as its first pairs; later words stay, and all of them where the call is refused
 abbrev pub writtenIn : List ℕ → Answer (List Interval) → List ℕ
 writtenIn old (answered windows) = sets old 0 (flatPairs windows)
-writtenIn old (refused number side index) = old
+writtenIn old (refusedAs r) = old
 
 -- 01 form.11: the paper's numbers and values for each case of the code's answer
 abbrev pub plannedOf : Planned → Answer ℕ

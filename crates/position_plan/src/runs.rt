@@ -5,9 +5,9 @@ ghost use Prim.Native.Nat.{_+_, _≤_, min};
 ghost use lib.ListN.{length, getD};
 ghost use lib.Dec.{ltb};
 ghost use Rattle.position_plan.specs.Inner.{Searchable, NextRun, Backable, LastRow, FirstFrom, GoesOn, LastBelow, GoesBack};
+use key_order::least;
 use pairs_sort::larger;
 use position_given::smaller;
-use query_item::pooled::least;
 
 // Missing rows, from start on, below end; where end is not above start, no row from start on is missing. The pairs before `pair`, and the
 // proved positions before `seen`, are below start.

@@ -1,10 +1,9 @@
 // Our planner: it writes its windows only where they fit.
 ghost use mathlib.Core.Path.{_≡_};
 ghost use mathlib.Core.Bool.{true};
-ghost use Prim.Native.Nat.{_+_, _/_, _≤_, _<_, min};
+ghost use Prim.Native.Nat.{_+_, _/_, _≤_, _<_};
 ghost use lib.ListN.{length};
 ghost use lib.Dec.{leb};
-ghost use Rattle.position_given.specs.Inner.{lastWord};
 ghost use Rattle.position_plan.specs.Plans.{planOf, plannedOf, PlanRefetch};
 ghost use Rattle.position_plan.specs.Inner.{Plannable, Opens, NextWindow, cutAt, Covered, Fitting, PlanGiven, WriteWindows};
 use crate::Planned;
@@ -13,10 +12,10 @@ use crate::runs::Run;
 use crate::runs::last_missing;
 use crate::runs::next_missing;
 use item_check::Checked;
-use item_check::Refusal;
-use position_given::LAST_WORD;
+use item_check::refusal_of;
 use position_given::Length;
 use position_given::RowCount;
+use position_given::saturating_add;
 use position_intervals::ask::len;
 
 // The end of a window, and the run of missing rows that is left after it.
@@ -52,11 +51,7 @@ fn plan_given(
     if has_room(intervals, proved, most, covered, out.len() / 2) {
         return Planned::Windows(write_windows(intervals, proved, most, out));
     }
-    Planned::Refused(Refusal {
-        number: 6,
-        side: 0,
-        index: 0,
-    })
+    Planned::Refused(refusal_of(6, 0, 0))
 }
 
 // Whether there are no more windows than there is room for. They are counted only where more could be.
@@ -81,8 +76,8 @@ fn always_fit(covered: u64, most: u64, pairs: usize, room: usize) -> bool
     covered / most <= (room - pairs) as u64
 }
 
-// Counts the windows by where they open: each at the first missing row past the reach of the one before it. It stops as soon as the room is
-// passed.
+// Counts the windows by where they open: each at the first missing row past the reach of the one before it, which is the last u64 at the most, since
+// no row from there on is covered. It stops as soon as the room is passed.
 fn windows_fit(intervals: &[u64], proved: &[u64], most: u64, room: usize) -> bool
     requires { ⌜ Plannable (now intervals) (now proved) most ⌝ }
     ensures { λ r. ⌜ r ≡ leb (length (planOf most (now (intervals .entry)) (now (proved .entry)))) room ⌝ }
@@ -94,7 +89,7 @@ fn windows_fit(intervals: &[u64], proved: &[u64], most: u64, room: usize) -> boo
             return false;
         }
         n += 1;
-        let limit = reach(run.start, most);
+        let limit = saturating_add(run.start, most);
         run = next_missing(intervals, proved, run.pair, run.seen, limit);
     }
     true
@@ -123,7 +118,7 @@ fn next_window(intervals: &[u64], proved: &[u64], most: u64, first: Run) -> Wind
     requires { ⌜ Opens (now intervals) (now proved) most first ⌝ }
     ensures { λ r. ⌜ NextWindow (now (intervals .entry)) (now (proved .entry)) most first r ⌝ }
 {
-    let limit = reach(first.start, most);
+    let limit = saturating_add(first.start, most);
     if limit < first.end {
         return cut(first, limit);
     }
@@ -150,14 +145,4 @@ fn cut(run: Run, limit: u64) -> Window
         seen: run.seen,
     };
     Window { end: limit, next }
-}
-
-// The end of the widest window that starts at a row; the last u64 where that is past it, since no row from there on is covered.
-fn reach(start: u64, most: u64) -> u64
-    ensures { λ r. ⌜ r ≡ min (start + most) lastWord ⌝ }
-{
-    if most <= LAST_WORD - start {
-        return start + most;
-    }
-    LAST_WORD
 }

@@ -6,11 +6,13 @@ use mathlib.Core.List.{List, [], _++_, append-assoc, append-nil}
 use native.Mathlib.Omega.{arith}
 use lib.ListN.{length, drop, length-append}
 use borrow.Author.Tests.{lt-ltb, le-ltb}
+use Rattle.key_order.proofs.Impossible.{impossible}
 use Rattle.intervals.specs.Intervals.{Interval, piece}
 use Rattle.intervals.specs.Intervals as interval
 use Rattle.intervals.proofs.Laws.{piece-some, piece-none, piece-one}
 use Rattle.query_item.specs.Items.{itemAt, itemsFrom}
-use Rattle.item_check.specs.Checks.{Answer, answered, accepted, refused, andThen, poolVerdict, shapeVerdict, firstBad, itemsOf}
+use Rattle.item_check.specs.declared.Refusal.{Refusal}
+use Rattle.item_check.specs.Checks.{Answer, answered, refused, refusedAs, accepted, andThen, poolVerdict, shapeVerdict, firstBad, itemsOf}
 use Rattle.item_check.proofs.Laws.{accepts, answers, items-end, items-more}
 use Rattle.pairs_sort.specs.Pairs.{pairsFrom, pairs, put, pushes, Merged}
 use Rattle.pairs_sort.proofs.Laws.{pairs-length, push-length, push-pairs, push-kept}
@@ -20,6 +22,7 @@ use Rattle.position_given.specs.Given.{canonicalVerdict}
 use Rattle.position_given.specs.Positions.{rowsOf}
 use Rattle.position_given.specs.Answers.{rowsAnswer}
 use Rattle.position_given.proofs.Laws.{canonical-exactly}
+use Rattle.position_given.proofs.Fronts.{pairs-as}
 use Rattle.position_query.specs.Ranges.{clipped, ranges}
 use Rattle.position_query.specs.Inner.{Wrote, Writes, Building}
 use Rattle.key_order.proofs.Words.{Bytes}
@@ -75,7 +78,7 @@ writing-start pool count ws old n h = record {
   later = refl;
 }
 
-module _ (pool : List ℕ) (count : ℕ) (ws old new : List ℕ) (n k i : ℕ) (W : Writing pool count ws old new n k i) where
+module _ {pool : List ℕ} {count : ℕ} {ws old new : List ℕ} {n k i : ℕ} (W : Writing pool count ws old new n k i) where
   abbrev all : List Interval
   all = ranges pool count (itemsFrom ws 0 n)
 
@@ -132,7 +135,7 @@ counted-start pool count ws old n = record {
   writing = writing-start pool count ws old n;
 }
 
-module _ (pool : List ℕ) (count : ℕ) (ws old new : List ℕ) (n k i : ℕ) (C : Counted pool count ws old new n k i) where
+module _ {pool : List ℕ} {count : ℕ} {ws old new : List ℕ} {n k i : ℕ} (C : Counted pool count ws old new n k i) where
   module _ (s e : ℕ) (is : (s, e) ≡ clipped pool count (itemAt ws i)) (h : i < n) where
     pub counted-some : s < e → (v : List ℕ) (r : ℕ) → r ≡ cond (pushes new k s e) (k + 1) k → v ≡ cond (pushes new k s e) (put new k s e) new
         → Counted pool count ws old v n (k + 1) (i + 1)
@@ -141,7 +144,7 @@ module _ (pool : List ℕ) (count : ℕ) (ws old new : List ℕ) (n k i : ℕ) (
       few = omega (arith, C .few);
       size = push-length new k s e v r is-r is-v ∙ C .size;
       whole = omega (arith, C .whole, ranges-some pool count ws n i s e is h l);
-      writing = λ room. writing-some pool count ws old new n k i (C .writing room) s e is h l v is-v;
+      writing = λ room. writing-some (C .writing room) s e is h l v is-v;
     }
 
     pub counted-none : e ≤ s → Counted pool count ws old new n k (i + 1)
@@ -150,7 +153,7 @@ module _ (pool : List ℕ) (count : ℕ) (ws old new : List ℕ) (n k i : ℕ) (
       few = omega (arith, C .few);
       size = C .size;
       whole = omega (arith, C .whole, ranges-none pool count ws n i s e is h l);
-      writing = λ room. writing-none pool count ws old new n k i (C .writing room) s e is h l;
+      writing = λ room. writing-none (C .writing room) s e is h l;
     }
 
   module _ (h : n ≤ i) where
@@ -158,7 +161,7 @@ module _ (pool : List ℕ) (count : ℕ) (ws old new : List ℕ) (n k i : ℕ) (
     counted-all = let none = ranges-end pool count ws n i h in omega (arith, rw none at (C .whole))
 
     pub counted-written : Writes (ranges pool count (itemsFrom ws 0 n)) old new
-    counted-written room = writing-end pool count ws old new n k i (C .writing room) h
+    counted-written room = writing-end (C .writing room) h
 
 -- ---- what is built
 
@@ -176,8 +179,8 @@ module _ (pool ws : List ℕ) (count : ℕ) (old : List ℕ) where
   pub build-short : length old / 2 < length whole → Building pool ws count old old (refused 6 0 0)
   build-short h = record {
     verdict = rw (lt-ltb (length old / 2) (length whole) h);
-    written = λ m t e. let z : _≡_ {A = ℕ} 0 1 = cc in absurd (omega arith);
-    kept = λ n s i e. refl;
+    written = λ m t e. impossible cc;
+    kept = λ no e. refl;
   }
 
   pub build-whole : (k : ℕ) (mid new : List ℕ) (m : ℕ) (r : Answer (ℕ × ℕ)) → length whole ≤ length old / 2 → k ≡ length whole → length mid ≡ length old → Wrote whole old mid
@@ -188,14 +191,11 @@ module _ (pool ws : List ℕ) (count : ℕ) (old : List ℕ) where
         verdict = rw (is-r, le-ltb (length old / 2) (length whole) (omega arith));
         written = λ m′ t e. let both : _≡_ {A = ℕ × ℕ} (m, rowsOf (pairs new m)) (m′, t) = cc in
             let same : m ≡ m′ = ap (λ (u : ℕ × ℕ). u .0) both in
-            let rows : rowsOf (pairs new m) ≡ t = ap (λ (u : ℕ × ℕ). u .1) both in rw (← same) (
-              sym rows,
-              R .canonical,
-              λ p. R .same p ∙ ap (λ (A : List Interval). interval.holds A p) (W .front),
-              R .freed,
-              R .later ∙ W .later,
-            );
-        kept = λ number s i e. let z : _≡_ {A = ℕ} 0 1 = cc in absurd (omega arith);
+            let rows : rowsOf (pairs new m) ≡ t = ap (λ (u : ℕ × ℕ). u .1) both in rw (← same) (record {
+              list = pairs-as R (λ p. ap (λ (A : List Interval). interval.holds A p) (W .front)) refl (W .later);
+              total = sym rows;
+            });
+        kept = λ no e. impossible cc;
       }
 
   -- pairs that are canonical as they are written stay
@@ -205,21 +205,20 @@ module _ (pool ws : List ℕ) (count : ℕ) (old : List ℕ) where
       let n : min k (length mid / 2) ≡ k = omega arith in
       let C = rows-canonical (pairs mid k) t told in
       build-whole k mid mid k (answered (k, t)) h is-k size W (rw n (record {
-        within = omega arith;
         canonical = C .0;
-        same = λ x. refl;
+        holding = λ x. refl;
         freed = λ i l m. absurd (omega arith);
         later = refl;
       })) (ap (λ (u : ℕ). answered (k, u)) (sym (C .1)))
 
 -- ---- the whole call
 
-pub from-refused : (pool ws : List ℕ) (count : ℕ) (old : List ℕ) (n s i : ℕ) → queryVerdict pool ws ≡ refused n s i
-    → FromQueryItems pool ws count old old (refused n s i)
-from-refused pool ws count old n s i e = record {
+pub from-refused : (pool ws : List ℕ) (count : ℕ) (old : List ℕ) (r : Refusal) → queryVerdict pool ws ≡ refusedAs r
+    → FromQueryItems pool ws count old old (refusedAs r)
+from-refused pool ws count old r e = record {
   verdict = rw e;
-  written = λ m t h. let z : _≡_ {A = ℕ} 0 1 = cc in absurd (omega arith);
-  kept = λ a b d h. refl;
+  written = λ m t h. impossible cc;
+  kept = λ no h. refl;
 }
 
 pub from-built : (pool ws : List ℕ) (count : ℕ) (old new : List ℕ) (r : Answer (ℕ × ℕ)) → Bytes pool → count ≤ lastWord → queryVerdict pool ws ≡ accepted
@@ -230,11 +229,8 @@ from-built pool ws count old new r B few e M =
     let needed = ranges-needed pool B count few 0 (itemsOf ws) (good .1) in record {
       verdict = rw (e, ← needed) (M .verdict);
       written = λ m t h. let w = M .written m t h in record {
-        total = w .0;
-        canonical = w .1;
-        covers = λ p. w .2 p ∙ ranges-covered pool B count few 0 (itemsOf ws) (good .1) p;
-        freed = rw (← needed) (w .3);
-        later = rw (← needed) (w .4);
+        list = pairs-as (w .list) (ranges-covered pool B count few 0 (itemsOf ws) (good .1)) needed refl;
+        total = w .total;
       };
       kept = M .kept;
     }

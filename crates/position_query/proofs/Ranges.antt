@@ -1,7 +1,7 @@
 -- The ranges of position items: which positions an item with good keys holds, which items have a bad key, and what the nonempty clipped
 -- ranges of accepted items are. Assumes nothing.
 use Prim.Native.Nat.{ℕ, zero, suc, _+_, _≤_, _<_, min}
-use mathlib.Core.Path.{_≡_, refl, sym, ap, _∙_}
+use mathlib.Core.Path.{_≡_, refl, sym, _∙_}
 use mathlib.Core.Bool.{Bool, true, false, cond, not, _&&_, _||_, and-true, false≢true, and-or-distrib-left, and-false}
 use mathlib.Core.List.{List, [], _∷_, _++_}
 use native.Mathlib.Decide.{decLt, ℕ-discrete}
@@ -10,6 +10,7 @@ use lib.ListN.{length, drop, List·getD-eq-default, length-take}
 use lib.Seq.{getD-take, getD-drop}
 use lib.Dec.{leb, ltb, eqb}
 use borrow.Author.Tests.{lt-ltb, le-ltb, le-leb, lt-leb, eq-eqb, ne-eqb, eqb-true}
+use Rattle.key_order.proofs.Impossible.{impossible}
 use Rattle.key_order.specs.declared.Ordering.{Ordering}
 use Rattle.key_order.specs.declared.Ordering.the-variants.{Less, Equal, Greater}
 use Rattle.key_order.specs.Order.{compareKeys, isEqual}
@@ -25,9 +26,9 @@ use Rattle.query_item.specs.declared.QueryItem.the-variants as item
 use Rattle.query_item.specs.Items.{bytesOf, same, atMost, holds, itemOf, queryItem}
 use Rattle.query_item.specs.Items as table
 use Rattle.query_item.specs.Boundaries.{toRangeSet, rangeOf}
-use Rattle.item_check.specs.Checks.{Answer, answered, refused, accepted, hasStart, hasEnd, malformed, outside, wrapped, faultAt, firstBad}
-use Rattle.query_item.proofs.Laws.{each-code}
-use Rattle.item_check.proofs.Laws.{accepts, fault-passes, formed-parts}
+use Rattle.item_check.specs.Checks.{Answer, answered, refused, refusedAs, accepted, hasStart, hasEnd, malformed, wrapped, itemFault, faultAt, firstBad}
+use Rattle.query_item.proofs.Laws.{each-code, each-item}
+use Rattle.item_check.proofs.Laws.{accepts, fault-passes, first-none, fault-parts, formed-parts}
 use Rattle.key_order.specs.Words.{be}
 use Rattle.position_key.specs.Keys.{keySize, positionKey, positionAnswer}
 use Rattle.position_query.specs.Covered.{holdsPosition, someHolds, covered, noPosition, badKey, positionFault, anyBelow, rangesNeeded}
@@ -53,15 +54,15 @@ position-is k s e = go (eqb (length k) keySize) refl e
   where
     go : (t : Bool) → eqb (length k) keySize ≡ t → cond t (answered (be k)) (refused 7 0 0) ≡ answered s → (length k ≡ keySize) × (be k ≡ s)
     go true p q = (eqb-true (length k) keySize p, cc)
-    go false p q = let z : _≡_ {A = ℕ} 0 1 = cc in absurd (omega arith)
+    go false p q = impossible cc
 
 after-is : (a : Answer ℕ) (s : ℕ) → afterOf a ≡ answered s → (p : ℕ) → a ≡ answered p → s ≡ min (p + 1) lastWord
 after-is (answered q) s e p h = let u : min (q + 1) lastWord ≡ s = cc in let v : q ≡ p = cc in omega arith
-after-is (refused n i j) s e p h = let z : _≡_ {A = ℕ} 0 1 = cc in absurd (omega arith)
+after-is (refusedAs r) s e p h = impossible cc
 
 after-some : (a : Answer ℕ) (s : ℕ) → afterOf a ≡ answered s → (p : ℕ) × (a ≡ answered p)
 after-some (answered q) s e = (q, refl)
-after-some (refused n i j) s e = let z : _≡_ {A = ℕ} 0 1 = cc in absurd (omega arith)
+after-some (refusedAs r) s e = impossible cc
 
 -- ---- a key and the key of a position stand as their numbers do
 
@@ -146,16 +147,16 @@ item-held pool B (item.RangeAfterToInclusive a b) s e p f t l =
 
 abbrev isRefused : {A : Type 0} → Answer A → Bool
 isRefused (answered a) = false
-isRefused (refused n s i) = true
+isRefused (refusedAs r) = true
 
 refused-both : (x y : Answer ℕ) → isRefused (bothOf x y) ≡ isRefused x || isRefused y
 refused-both (answered s) (answered e) = refl
-refused-both (answered s) (refused n i j) = refl
-refused-both (refused n i j) y = refl
+refused-both (answered s) (refusedAs r) = refl
+refused-both (refusedAs r) y = refl
 
 refused-after : (x : Answer ℕ) → isRefused (afterOf x) ≡ isRefused x
 refused-after (answered s) = refl
-refused-after (refused n i j) = refl
+refused-after (refusedAs r) = refl
 
 refused-key : (k : List ℕ) → isRefused (positionAnswer k) ≡ not (eqb (length k) keySize)
 refused-key k = go (eqb (length k) keySize)
@@ -196,51 +197,27 @@ bad-range pool it h = bad-code pool (it .start) (it .end) (it .code) (formed-par
 
 -- nothing is wrong with an item whose fault is 0
 clean : (pool : List ℕ) (it : ItemWords) → positionFault pool it ≡ 0 → (malformed it ≡ false) × (badKey pool it ≡ false)
-clean pool it h = go (malformed it) (outside pool it) (wrapped it) (badKey pool it) h
+clean pool it h =
+    let both = first-none (itemFault pool it) (cond (wrapped it) 5 (cond (badKey pool it) 7 0)) .0 h in
+    (fault-parts pool it (both .0) .0, go (wrapped it) (badKey pool it) (both .1))
   where
-    go : (m o w b : Bool) → _≡_ {A = ℕ} (cond m 1 (cond o 2 (cond w 5 (cond b 7 0)))) 0 → (m ≡ false) × (b ≡ false)
-    go true o w b e = absurd (omega arith)
-    go false true w b e = absurd (omega arith)
-    go false false true b e = absurd (omega arith)
-    go false false false true e = absurd (omega arith)
-    go false false false false e = (refl, refl)
+    go : (w b : Bool) → _≡_ {A = ℕ} (cond w 5 (cond b 7 0)) 0 → b ≡ false
+    go true b e = absurd (omega arith)
+    go false true e = absurd (omega arith)
+    go false false e = refl
 
 -- ---- an item's range by its code
 
 module _ (pool : List ℕ) (a b : KeyAt) where
-  abbrev FirstBy : ℕ → Type 0
-  FirstBy c = firstOf pool (toRangeSet (itemOf c a b) .start) ≡ firstBy c (positionAnswer (bytesOf pool a))
+  code-first : (c : ℕ) → firstOf pool (toRangeSet (itemOf c a b) .start) ≡ firstBy c (positionAnswer (bytesOf pool a))
+  code-first =
+      each-item a b (λ c q. firstOf pool (toRangeSet q .start) ≡ firstBy c (positionAnswer (bytesOf pool a)))
+      refl refl refl refl refl refl refl refl refl refl (λ c h. sym (rw (lt-ltb 9 c h)))
 
-  abbrev PastBy : ℕ → Type 0
-  PastBy c = pastOf pool (toRangeSet (itemOf c a b) .end) ≡ pastBy c (positionAnswer (bytesOf pool a)) (positionAnswer (bytesOf pool b))
-
-  -- a code that the table has not
-  unknown : (c : ℕ) → 9 < c → itemOf c a b ≡ item.RangeFull
-  unknown c h =
-      let no : (n : ℕ) → n ≤ 9 → eqb c n ≡ false = (λ n l. ne-eqb c n (λ e. omega arith)) in
-      rw (
-        no 0 (omega arith),
-        no 1 (omega arith),
-        no 2 (omega arith),
-        no 4 (omega arith),
-        no 5 (omega arith),
-        no 6 (omega arith),
-        no 7 (omega arith),
-        no 8 (omega arith),
-        no 9 (omega arith),
-      )
-
-  code-first : (c : ℕ) → FirstBy c
-  code-first c = elim (decLt 9 c) [
-    | yes h ↦ ap (λ (q : QueryItem). firstOf pool (toRangeSet q .start)) (unknown c h) ∙ sym (rw (lt-ltb 9 c h))
-    | no h ↦ each-code FirstBy refl refl refl refl refl refl refl refl refl refl c (omega arith)
-  ]
-
-  code-past : (c : ℕ) → PastBy c
-  code-past c = elim (decLt 9 c) [
-    | yes h ↦ ap (λ (q : QueryItem). pastOf pool (toRangeSet q .end)) (unknown c h) ∙ sym (rw (lt-ltb 9 c h))
-    | no h ↦ each-code PastBy refl refl refl refl refl refl refl refl refl refl c (omega arith)
-  ]
+  code-past : (c : ℕ) → pastOf pool (toRangeSet (itemOf c a b) .end) ≡ pastBy c (positionAnswer (bytesOf pool a)) (positionAnswer (bytesOf pool b))
+  code-past =
+      each-item a b (λ c q. pastOf pool (toRangeSet q .end) ≡ pastBy c (positionAnswer (bytesOf pool a)) (positionAnswer (bytesOf pool b)))
+      refl refl refl refl refl refl refl refl refl refl (λ c h. sym (rw (lt-ltb 9 c h)))
 
 pub clipped-by : (pool : List ℕ) (count : ℕ) (it : ItemWords) (x y : Answer ℕ) → x ≡ firstBy (it .code) (positionAnswer (bytesOf pool (it .start)))
     → y ≡ pastBy (it .code) (positionAnswer (bytesOf pool (it .start))) (positionAnswer (bytesOf pool (it .end)))
@@ -254,8 +231,8 @@ clipped-by pool count it x y p q =
 
 parts : (x y : Answer ℕ) → isRefused (bothOf x y) ≡ false → (s : ℕ) × (e : ℕ) × (x ≡ answered s) × (y ≡ answered e)
 parts (answered s) (answered e) h = (s, e, refl, refl)
-parts (answered s) (refused n i j) h = absurd (false≢true (sym h))
-parts (refused n i j) y h = absurd (false≢true (sym h))
+parts (answered s) (refusedAs r) h = absurd (false≢true (sym h))
+parts (refusedAs r) y h = absurd (false≢true (sym h))
 
 any-inside : (f : ℕ → Bool) (s e n : ℕ) → ((p : ℕ) → p < n → f p ≡ inside s e p) → anyBelow f n ≡ ltb s (min e n)
 unfolding anyBelow

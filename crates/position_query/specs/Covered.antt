@@ -1,17 +1,17 @@
 -- The positions that query items cover, the checks of position items, and the promise of `from_query_items`. Definitions only.
 -- Assumes nothing.
-use Prim.Native.Nat.{ℕ, zero, suc, _*_, _/_, _≤_, _<_}
+use Prim.Native.Nat.{ℕ, zero, suc, _/_}
 use mathlib.Core.Path.{_≡_}
 use mathlib.Core.List.{List, [], _∷_}
 use mathlib.Core.Bool.{Bool, false, cond, not, _&&_, _||_}
-use lib.ListN.{length, getD, drop}
+use lib.ListN.{length}
 use lib.Dec.{ltb, eqb}
-use Rattle.intervals.specs.Intervals as interval
 use Rattle.query_item.specs.declared.KeyAt.{KeyAt}
 use Rattle.query_item.specs.declared.ItemWords.{ItemWords}
 use Rattle.query_item.specs.Items.{bytesOf, queryItem, holds}
-use Rattle.item_check.specs.Checks.{Answer, answered, refused, Verdict, accepted, andThen, hasStart, hasEnd, malformed, outside, wrapped, poolVerdict, shapeVerdict, firstBad, itemsOf}
-use Rattle.pairs_sort.specs.Pairs.{pairs}
+use Rattle.item_check.specs.declared.Refusal.{Refusal}
+use Rattle.item_check.specs.Checks.{Answer, answered, refused, refusedAs, Verdict, accepted, andThen, hasStart, hasEnd, wrapped, firstFault, itemFault, poolVerdict, shapeVerdict, firstBad, itemsOf}
+use Rattle.pairs_sort.specs.Pairs.{pairs, CanonicalPairs}
 use Rattle.position_given.specs.Positions.{rowsOf}
 use Rattle.position_key.specs.Keys.{keySize, positionKey}
 
@@ -40,11 +40,7 @@ badKey pool it = (hasStart (it .code) && noPosition pool (it .start)) || (hasEnd
 
 -- 01 refusal.6, m6.1: of an item 1, 2, 5, 7; 0 where nothing is wrong. Items need not be upright; reading A19: 2 and 5 stand before 7
 abbrev pub positionFault : List ℕ → ItemWords → ℕ
-positionFault pool it =
-    cond (malformed it) 1
-    (cond (outside pool it) 2
-    (cond (wrapped it) 5
-    (cond (badKey pool it) 7 0)))
+positionFault pool it = firstFault (itemFault pool it) (cond (wrapped it) 5 (cond (badKey pool it) 7 0))
 
 -- ---- room
 
@@ -72,23 +68,25 @@ buildVerdict pool ws count words = andThen (queryVerdict pool ws) (roomVerdict (
 
 -- ---- the promise
 
--- 01 m6.3, m6.4, m6.6: the result is pairs, canonical, of the covered positions. `covers` is for every number: u64::MAX is below no count.
--- Reading A20: words of pairs merged away become 0, later ones stay. 02 §4.5: the total beside them is what counting afresh gives
-pub record Covers (pool ws : List ℕ) (count : ℕ) (old new : List ℕ) (m rows : ℕ) : Type 0 where
-  pub canonical : interval.Canonical (pairs new m)
-  pub covers : (p : ℕ) → interval.holds (pairs new m) p ≡ covered pool (itemsOf ws) count p
-  pub freed : (i : ℕ) → 2 * m ≤ i → i < 2 * rangesNeeded pool count (itemsOf ws) → getD new i 0 ≡ 0
-  pub later : drop (2 * rangesNeeded pool count (itemsOf ws)) new ≡ drop (2 * rangesNeeded pool count (itemsOf ws)) old
+-- 01 m6.4, m6.6: the result is pairs, canonical, of the positions that f has; reading A20: of the pairs that the ranges need, words of those merged
+-- away become 0, later ones stay. 02 §4.5: the total beside them is what counting afresh gives
+pub record Covers (f : ℕ → Bool) (needed : ℕ) (old new : List ℕ) (m rows : ℕ) : Type 0 where
+  pub list : CanonicalPairs f needed old new m
   pub total : rows ≡ rowsOf (pairs new m)
 
 -- 01 form.11: whether a call answers, or why not
 abbrev pub asVerdict : {A : Type 0} → Answer A → Verdict
 asVerdict (answered a) = accepted
-asVerdict (refused number side index) = refused number side index
+asVerdict (refusedAs r) = refusedAs r
 
 -- 01 demand.1, m6.5: refused exactly as the checks say; pairs written where it is not, and their number and total answered; reading A1: nothing
 -- written where it is
-pub record FromQueryItems (pool ws : List ℕ) (count : ℕ) (old new : List ℕ) (r : Answer (ℕ × ℕ)) : Type 0 where
-  pub verdict : asVerdict r ≡ buildVerdict pool ws count (length old)
-  pub written : (m rows : ℕ) → r ≡ answered (m, rows) → Covers pool ws count old new m rows
-  pub kept : (number side index : ℕ) → r ≡ refused number side index → new ≡ old
+pub record Builds (checks : Verdict) (f : ℕ → Bool) (needed : ℕ) (old new : List ℕ) (r : Answer (ℕ × ℕ)) : Type 0 where
+  pub verdict : asVerdict r ≡ checks
+  pub written : (m rows : ℕ) → r ≡ answered (m, rows) → Covers f needed old new m rows
+  pub kept : (no : Refusal) → r ≡ refusedAs no → new ≡ old
+
+-- 01 m6.3, m6.5: the pairs of the covered positions, for every number: u64::MAX is below no count
+abbrev pub FromQueryItems : List ℕ → List ℕ → ℕ → List ℕ → List ℕ → Answer (ℕ × ℕ) → Type 0
+FromQueryItems pool ws count old new r =
+    Builds (buildVerdict pool ws count (length old)) (covered pool (itemsOf ws) count) (rangesNeeded pool count (itemsOf ws)) old new r

@@ -10,7 +10,7 @@ use Rattle.query_item.specs.declared.RangeSetItem.{RangeSetItem}
 use Rattle.query_item.specs.declared.RangeSetItem.the-variants.{UnboundedStart, UnboundedEnd, Inclusive, ExclusiveStart, ExclusiveEnd}
 use Rattle.query_item.specs.Items.{bytesOf}
 use Rattle.query_item.specs.Boundaries.{rangeOf}
-use Rattle.item_check.specs.Checks.{Answer, answered, refused}
+use Rattle.item_check.specs.Checks.{Answer, answered, refusedAs}
 use Rattle.position_given.specs.Inner.{lastWord}
 use Rattle.position_key.specs.Keys.{positionAnswer}
 
@@ -19,7 +19,7 @@ use Rattle.position_key.specs.Keys.{positionAnswer}
 -- 01 slip.3: the position after one, where there is one; the last u64 stays
 abbrev pub afterOf : Answer ℕ → Answer ℕ
 afterOf (answered p) = answered (min (p + 1) lastWord)
-afterOf (refused number side index) = refused number side index
+afterOf (refusedAs r) = refusedAs r
 
 -- the first position that a start lets in
 abbrev pub firstOf : List ℕ → RangeSetItem → Answer ℕ
@@ -40,8 +40,8 @@ pastOf pool (ExclusiveEnd b) = positionAnswer (bytesOf pool b)
 -- both, or the refusal of one
 abbrev pub bothOf : Answer ℕ → Answer ℕ → Answer Interval
 bothOf (answered s) (answered e) = answered (s, e)
-bothOf (answered s) (refused number side index) = refused number side index
-bothOf (refused number side index) e = refused number side index
+bothOf (answered s) (refusedAs r) = refusedAs r
+bothOf (refusedAs r) e = refusedAs r
 
 abbrev pub rangeAnswer : List ℕ → RangeSet → Answer Interval
 rangeAnswer pool set = bothOf (firstOf pool (set .start)) (pastOf pool (set .end))
@@ -49,7 +49,7 @@ rangeAnswer pool set = bothOf (firstOf pool (set .start)) (pastOf pool (set .end
 -- 01 m6.3: p < count: clipped to the count; nothing where a key is no position
 abbrev pub clipTo : ℕ → Answer Interval → Interval
 clipTo count (answered a) = (a .0, min (a .1) count)
-clipTo count (refused number side index) = (0, 0)
+clipTo count (refusedAs r) = (0, 0)
 
 abbrev pub clipped : List ℕ → ℕ → ItemWords → Interval
 clipped pool count it = clipTo count (rangeAnswer pool (rangeOf it))

@@ -14,13 +14,12 @@ ghost use Rattle.position_query.specs.Covered.{positionFault, queryVerdi
 ghost use Rattle.position_query.specs.Ranges.{afterOf, clipped, ranges};
 ghost use Rattle.position_query.specs.Inner.{isGood, isClean, firstBy, pastBy, rangePair, Writes, Building};
 use item_check::Checked;
-use item_check::Refusal;
 use item_check::check_pool;
 use item_check::check_shape;
 use item_check::has_end;
 use item_check::has_start;
+use item_check::is_nonzero;
 use item_check::is_out;
-use item_check::is_written;
 use item_check::item_fault;
 use item_check::refuse;
 use item_words::ITEM_SIZE;
@@ -33,6 +32,8 @@ use position_given::LogPosition;
 use position_given::RowCount;
 use position_given::Stored;
 use position_given::count_rows;
+use position_given::no_room;
+use position_given::saturating_add;
 use position_given::smaller;
 use position_key::PositionKey;
 use position_key::be_u64;
@@ -116,14 +117,14 @@ fn is_clean(pool: &[u8], item: ItemWords) -> bool
         & is_good(pool, has_end(item.code), end)
 }
 
-// Whether a key that an item has is a position in the pool, or one that it does not have is not written.
+// Whether a key that an item has is a position in the pool, or the words of one that it does not have are 0.
 fn is_good(pool: &[u8], has: bool, key: KeyAt) -> bool
     ensures { λ r. ⌜ r ≡ isGood (now (pool .entry)) has key ⌝ }
 {
     if has {
         return (key.length == POSITION_KEY_LENGTH) & !is_out(pool, key);
     }
-    !is_written(key)
+    !is_nonzero(key)
 }
 
 // ---- the range of an item
@@ -167,10 +168,7 @@ fn key_after(pool: &[u8], key: KeyAt) -> PositionKey
     let PositionKey::At(p) = be_u64(key_bytes(pool, key)) else {
         return PositionKey::Refused;
     };
-    if p.0 < LAST_WORD {
-        return PositionKey::At(LogPosition(p.0 + 1));
-    }
-    PositionKey::At(p)
+    PositionKey::At(LogPosition(saturating_add(p.0, 1)))
 }
 
 // The range of an item, from a start on, below an end, clipped to the count; nothing where a key is no position.
@@ -205,11 +203,7 @@ fn build(pool: &[u8], items: &[u32], count: u64, out: &mut [u64]) -> Stored
     ensures { λ r. ⌜ Building (now (pool .entry)) (now (items .entry)) count (now (out .entry)) (now (out .exit)) (storedOf r) ⌝ }
 {
     if !has_room(pool, items, count, out.len() / 2) {
-        return Stored::Refused(Refusal {
-            number: 6,
-            side: 0,
-            index: 0,
-        });
+        return no_room();
     }
     let k = write_ranges(pool, items, count, out);
     match count_front(out, k) {

@@ -10,7 +10,7 @@ use Rattle.position_given.specs.Positions.{countUp}
 use Rattle.position_given.specs.Inner.{lastWord}
 use Rattle.position_given.proofs.Widths.{length-count}
 use Rattle.position_report.specs.declared.PositionMismatch.{PositionMismatch}
-use Rattle.position_report.specs.Reports.{mostReported, reportOf}
+use Rattle.position_report.specs.Reports.{mostReported, reportAt, reportOf}
 use Rattle.position_report.specs.Inner.{withRun}
 
 -- ---- a run that is not stored
@@ -19,14 +19,14 @@ pub run-none : (e : List ℕ) (n from k : ℕ) → k ≡ 0 → e ≡ sets e n (c
 unfolding countUp
 run-none e n from k h = rw h
 
-pub run-empty : (r : PositionMismatch) (from width : ℕ) → width ≡ 0 → r .total ≤ lastWord → r ≡ withRun r from width
+pub run-empty : (r : PositionMismatch) (from width : ℕ) → width ≡ 0 → r .total .0 ≤ lastWord → r ≡ withRun r from width
 unfolding withRun
 run-empty r from width h l =
-    let t : r .total ≡ min (r .total + width) lastWord = omega arith in
+    let t : r .total .0 ≡ min (r .total .0 + width) lastWord = omega arith in
     let k : min (mostReported - r .count) width ≡ 0 = omega arith in
     let c : r .count ≡ r .count + min (mostReported - r .count) width = omega arith in
     let e = run-none (r .examples) (r .count) from (min (mostReported - r .count) width) k in
-    λ i. record { total = t i; count = c i; examples = e i }
+    λ i. reportAt (t i) (c i) (e i)
 
 -- ---- a turn
 
@@ -112,4 +112,4 @@ module _ (l : List ℕ) (from width : ℕ) where
       let c : min mostReported (length l) + places ≡ min mostReported (length (l ++ countUp from width)) = omega (arith, grown) in
       let e : sets (shownOf l) (min mostReported (length l)) (countUp from places) ≡ shownOf (l ++ countUp from width) =
       elim (decLt (length l) mostReported) [ yes k ↦ partly k | no k ↦ full (omega arith) ] in
-      λ i. record { total = t i; count = c i; examples = e i }
+      λ i. reportAt (t i) (c i) (e i)

@@ -7,10 +7,7 @@ use Rattle.position_given.specs.Positions.{countUp}
 use Rattle.position_given.specs.Inner.{lastWord}
 use Rattle.position_report.specs.declared.PositionMismatch.{PositionMismatch}
 use Rattle.position_report.specs.declared.Counted.{Counted}
-use Rattle.position_report.specs.Reports.{mostReported}
-
-abbrev pub reportAt : ℕ → ℕ → List ℕ → PositionMismatch
-reportAt n k l = record { total = n; count = k; examples = l }
+use Rattle.position_report.specs.Reports.{mostReported, reportAt}
 
 -- a report whose examples are lent
 abbrev pub reportWith : Counted → List ℕ → PositionMismatch
@@ -18,8 +15,6 @@ reportWith c examples = reportAt (c .total) (c .count) examples
 
 -- a report with a run of positions added, width of them from `from` on: as many examples as there are places
 unfoldable pub withRun : PositionMismatch → ℕ → ℕ → PositionMismatch
-withRun r from width = record {
-  total = min (r .total + width) lastWord;
-  count = r .count + min (mostReported - r .count) width;
-  examples = sets (r .examples) (r .count) (countUp from (min (mostReported - r .count) width));
-}
+withRun r from width =
+    reportAt (min (r .total .0 + width) lastWord) (r .count + min (mostReported - r .count) width)
+    (sets (r .examples) (r .count) (countUp from (min (mostReported - r .count) width)))

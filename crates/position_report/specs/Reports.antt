@@ -8,10 +8,11 @@ use Rattle.position_report.specs.declared.PositionMismatch.{PositionMism
 abbrev pub mostReported : ℕ
 mostReported = 16
 
+-- 01 m6.10: a report of three parts: the total, how many examples there are, and their places
+abbrev pub reportAt : ℕ → ℕ → List ℕ → PositionMismatch
+reportAt total count examples = record { total = record { 0 = total }; count = count; examples = examples }
+
 -- 01 m6.10: the exact total and the smallest offenders, of a list that has them in rising order; unused places are 0
 unfoldable pub reportOf : List ℕ → PositionMismatch
-reportOf offenders = record {
-  total = length offenders;
-  count = min mostReported (length offenders);
-  examples = take mostReported offenders ++ replicate (mostReported - length offenders) 0;
-}
+reportOf offenders =
+    reportAt (length offenders) (min mostReported (length offenders)) (take mostReported offenders ++ replicate (mostReported - length offenders) 0)

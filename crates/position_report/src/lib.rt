@@ -10,14 +10,15 @@ ghost use Prim.Native.Nat.{_+_, _-_, _≤_, min};
 ghost use lib.Seq.{sets};
 ghost use Rattle.position_given.specs.Positions.{countUp};
 ghost use Rattle.position_given.specs.Inner.{lastWord};
-ghost use Rattle.position_report.specs.Reports.{mostReported, reportOf};
-ghost use Rattle.position_report.specs.Inner.{reportAt, reportWith, withRun};
-use position_given::LAST_WORD;
+ghost use Rattle.position_report.specs.Reports.{mostReported, reportAt, reportOf};
+ghost use Rattle.position_report.specs.Inner.{reportWith, withRun};
+use position_given::RowCount;
+use position_given::saturating_add;
 use position_given::smaller;
 
 // How many positions are off, and the smallest of them: the first count places of examples. Unused places are 0.
 pub struct PositionMismatch {
-    pub total: u64,
+    pub total: RowCount,
     pub count: usize,
     pub examples: [u64; PositionMismatch::MAX_REPORTED_POSITIONS],
 }
@@ -37,7 +38,7 @@ impl PositionMismatch {
         ensures { λ r. ⌜ r ≡ reportOf [] ⌝ }
     {
         Self {
-            total: 0,
+            total: RowCount(0),
             count: 0,
             examples: [0; PositionMismatch::MAX_REPORTED_POSITIONS],
         }
@@ -111,13 +112,4 @@ fn show_run(
         k += 1;
     }
     shown
-}
-
-fn saturating_add(x: u64, y: u64) -> u64
-    ensures { λ r. ⌜ r ≡ min (x + y) lastWord ⌝ }
-{
-    if LAST_WORD - x < y {
-        return LAST_WORD;
-    }
-    x + y
 }

@@ -1,4 +1,2 @@
-pub mod Both
 pub mod Known
-pub mod Laws
 pub mod Stepped

@@ -10,9 +10,9 @@ use Rattle.position_given.specs.Inner.{lastWord}
 use Rattle.position_given.proofs.Widths.{Words, Ends}
 use Rattle.position_mismatch.specs.declared.SpanWalk.{SpanWalk}
 use Rattle.position_mismatch.specs.declared.Compared.{Compared}
-use Rattle.position_mismatch.specs.Reports.{spansAnswer}
+use Rattle.position_mismatch.specs.Reports.{GivesCompared, spansAnswer}
 use Rattle.position_mismatch.specs.Inner.{startOf, stepOf, stepsOf, finishOf}
-use Rattle.position_mismatch.proofs.Laws.{Gives, spans-answer}
+use Rattle.position_mismatch.proofs.Laws.{spans-answer}
 use Rattle.position_spans.specs.declared.Span.{Span}
 use Rattle.position_spans.specs.Spans.{noSpan, spanPair, spanPairs}
 
@@ -41,12 +41,12 @@ stepped-more ws spans w v i z s l ez fits ev =
 
 -- none is left
 pub stepped-end : (ws : List ℕ) (spans : List Span) (w : SpanWalk) (i : ℕ) (r : Compared) → Words ws → length spans < 18446744073709551616
-    → Stepped ws spans w i → length spans ≤ i → r ≡ finishOf ws w → Gives r (spansAnswer ws (spanPairs spans))
+    → Stepped ws spans w i → length spans ≤ i → r ≡ finishOf ws w → GivesCompared r (spansAnswer ws (spanPairs spans))
 unfolding stepsOf
 stepped-end ws spans w i r W few s l e =
     let none : drop i spans ≡ [] = drop-of-length-le spans l in
     let all : w ≡ stepsOf ws (startOf ws) (spanPairs spans) =
     sym (ap (λ (xs : List Span). stepsOf ws w (spanPairs xs)) none) ∙ s .steps in
     let ends : Ends lastWord (spanPairs spans) = s .ends (subst (λ (xs : List Span). Ends lastWord (spanPairs xs)) (sym none) tt) in
-    subst (λ (x : Compared). Gives x (spansAnswer ws (spanPairs spans))) (sym (e ∙ ap (finishOf ws) all))
+    subst (λ (x : Compared). GivesCompared x (spansAnswer ws (spanPairs spans))) (sym (e ∙ ap (finishOf ws) all))
     (spans-answer ws (spanPairs spans) W ends (omega (arith, length-map spans spanPair)))

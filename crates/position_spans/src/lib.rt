@@ -1,10 +1,10 @@
 // Module 6 of document 01: `missing_from_spans`, on a lent slice of spans. It is thin: the work is the core of `position_mismatch`, which
 // takes one span after the other.
-// Definitions: specs/Spans.antt (a span as an interval); the answer is `position_mismatch`'s `spansAnswer`. Laws: proofs/Laws.antt.
+// Definitions: specs/Spans.antt (a span as an interval); the answer is `position_mismatch`'s `spansAnswer`, and its laws stand there.
 ghost use mathlib.Core.Path.{_≡_};
 ghost use Prim.Native.Nat.{_<_};
 ghost use lib.ListN.{length, getD};
-ghost use Rattle.position_mismatch.specs.Reports.{comparedOf, reportIn, spansAnswer};
+ghost use Rattle.position_mismatch.specs.Reports.{GivesCompared, spansAnswer};
 ghost use Rattle.position_mismatch.specs.Inner.{stepOf};
 ghost use Rattle.position_spans.specs.Spans.{noSpan, spanPairs};
 use position_mismatch::Compared;
@@ -20,13 +20,9 @@ pub struct Span {
     pub end: u64,
 }
 
-// How many spans `missing_from_few_spans` takes.
-pub const FEW_SPANS: usize = 32;
-
 // Which covered positions no span contains. Linear in intervals and spans (01 m6.11, form.9).
 pub fn missing_from_spans(intervals: &[u64], spans: &[Span]) -> Compared
-    ensures { λ r. ⌜ comparedOf r ≡ spansAnswer (now (intervals .entry)) (spanPairs (now (spans .entry))) ⌝ }
-    ensures { λ r. ⌜ r .report ≡ reportIn (spansAnswer (now (intervals .entry)) (spanPairs (now (spans .entry)))) ⌝ }
+    ensures { λ r. ⌜ GivesCompared r (spansAnswer (now (intervals .entry)) (spanPairs (now (spans .entry)))) ⌝ }
 {
     let mut walk = start(intervals);
     let mut i: usize = 0;
@@ -35,15 +31,6 @@ pub fn missing_from_spans(intervals: &[u64], spans: &[Span]) -> Compared
         i += 1;
     }
     finish(intervals, walk)
-}
-
-// inner: the same of an array, for callers that lend no slice of spans. A shorter list is filled up with empty spans at its last end, which
-// change no answer (`answer-filled`) (01 m6.11).
-pub fn missing_from_few_spans(intervals: &[u64], spans: [Span; FEW_SPANS]) -> Compared
-    ensures { λ r. ⌜ comparedOf r ≡ spansAnswer (now (intervals .entry)) (spanPairs spans) ⌝ }
-    ensures { λ r. ⌜ r .report ≡ reportIn (spansAnswer (now (intervals .entry)) (spanPairs spans)) ⌝ }
-{
-    missing_from_spans(intervals, &spans)
 }
 
 fn span_at(spans: &[Span], i: usize) -> Span

@@ -8,8 +8,9 @@ use native.Mathlib.Omega.{arith}
 use lib.Dec.{ltb}
 use lib.ListN.{length, drop, replicate, length-append, length-replicate, length-drop}
 use borrow.Author.Tests.{le-ltb, ltb-false}
+use Rattle.key_order.proofs.Impossible.{impossible}
 use Rattle.intervals.specs.Intervals.{Interval, Canonical}
-use Rattle.item_check.specs.Checks.{Answer, answered, refused, Verdict, andThen, wordsBy}
+use Rattle.item_check.specs.Checks.{Answer, answered, refused, refusedAs, Verdict, andThen, wordsBy}
 use Rattle.pairs_sort.specs.Pairs.{pairs, flatPairs}
 use Rattle.pairs_sort.proofs.Laws.{pairs-flat-front, length-flat}
 use Rattle.position_given.specs.Positions.{rowsOf}
@@ -60,7 +61,7 @@ changed ws count total A n m h = first (storedVerdict ws count total) refl h
   where
     second : (t : Bool) → ltb (length ws / 2) (length A) ≡ t → StoredList ws count total → cond {A = Answer (ℕ × ℕ)} t (refused 6 0 0) (answered (length A, rowsOf A)) ≡ answered (n, m)
         → Changed ws count total A n m (wordsBy (cond {A = Answer (ℕ × ℕ)} t (refused 6 0 0) (answered (length A, rowsOf A))) ws (laid ws count A))
-    second true e S q = let z : _≡_ {A = ℕ} 0 1 = cc in absurd (omega arith)
+    second true e S q = impossible cc
     second false e S q =
         let p : _≡_ {A = ℕ × ℕ} (length A, rowsOf A) (n, m) = cc in record {
           before = S;
@@ -73,7 +74,7 @@ changed ws count total A n m h = first (storedVerdict ws count total) refl h
     first : (v : Verdict) → storedVerdict ws count total ≡ v → andThen v (listAnswer ws A) ≡ answered (n, m)
         → Changed ws count total A n m (wordsBy (andThen v (listAnswer ws A)) ws (laid ws count A))
     first (answered tt) e q = second (ltb (length ws / 2) (length A)) refl (stored ws count total e) q
-    first (refused x y i) e q = let z : _≡_ {A = ℕ} 0 1 = cc in absurd (omega arith)
+    first (refusedAs r) e q = impossible cc
 
 module _ {ws : List ℕ} {count total : ℕ} {A : List Interval} {n m : ℕ} {vs : List ℕ} (C : Changed ws count total A n m vs) where
   -- the pairs that stand there then

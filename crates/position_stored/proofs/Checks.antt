@@ -7,9 +7,10 @@ use native.Mathlib.Omega.{arith}
 use lib.Dec.{ltb, eqb}
 use lib.ListN.{length, take}
 use borrow.Author.Tests.{lt-ltb, le-ltb, eq-eqb, eqb-true, ltb-false}
+use Rattle.item_check.specs.declared.Refusal.{Refusal}
 use Rattle.item_check.specs.declared.Checked.{Checked}
 use Rattle.item_check.specs.declared.Checked.the-variants.{Accepted}
-use Rattle.item_check.specs.Checks.{answered, refused, Verdict, accepted, andThen, verdictOf}
+use Rattle.item_check.specs.Checks.{answered, refused, refusedAs, Verdict, accepted, andThen, verdictOf}
 use Rattle.item_check.proofs.Laws.{accepts}
 use Rattle.pairs_sort.specs.Pairs.{pairs}
 use Rattle.position_given.specs.Given.{canonicalVerdict, intervalsOf}
@@ -29,8 +30,8 @@ module _ (ws : List ℕ) (count : ℕ) (h : count ≤ length ws / 2) where
   front-counted : rowsAnswer (intervalsOf (take (2 * count) ws)) ≡ rowsAnswer (pairs ws count)
   front-counted = ap rowsAnswer (front-pairs ws count (omega arith))
 
-  pub stored-refused : (total n s i : ℕ) → refused n s i ≡ rowsAnswer (intervalsOf (take (2 * count) ws)) → refused n s i ≡ storedVerdict ws count total
-  stored-refused total n s i e = rw (passed, ← rows-refused (pairs ws count) n s i (e ∙ front-counted))
+  pub stored-refused : (total : ℕ) (r : Refusal) → refusedAs r ≡ rowsAnswer (intervalsOf (take (2 * count) ws)) → refusedAs r ≡ storedVerdict ws count total
+  stored-refused total r e = rw (passed, ← rows-refused (pairs ws count) r (e ∙ front-counted))
 
   pub stored-rows : (total n : ℕ) (v : Verdict) → answered n ≡ rowsAnswer (intervalsOf (take (2 * count) ws))
       → v ≡ cond (eqb n total) accepted (refused 9 0 count) → v ≡ storedVerdict ws count total
@@ -68,5 +69,5 @@ pub stored-accepts : (ws : List ℕ) (count total : ℕ) → StoredList ws count
 stored-accepts ws count total S =
     rw (le-ltb (length ws / 2) count (S .within), canonical-accepts (pairs ws count) (S .canonical), eq-eqb (rowsOf (pairs ws count)) total (S .right))
 
-pub stored-of : (ws : List ℕ) (count total : ℕ) (r : Checked) → verdictOf r ≡ storedVerdict ws count total → r ≡ Accepted → StoredList ws count total
-stored-of ws count total r e a = stored ws count total (sym e ∙ ap verdictOf a)
+pub stored-of : {ws : List ℕ} {count total : ℕ} (r : Checked) → verdictOf r ≡ storedVerdict ws count total → r ≡ Accepted → StoredList ws count total
+stored-of {ws} {count} {total} r e a = stored ws count total (sym e ∙ ap verdictOf a)

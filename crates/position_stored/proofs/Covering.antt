@@ -39,8 +39,8 @@ cover-rest ws count s e at P = elim (decLt at count) [
   | no h ↦ rw (pairs-end ws at count (omega arith))
 ]
 
-module _ (ws : List ℕ) (count total s e : ℕ) (S : StoredList ws count total) (h : s < e) (at : ℕ) (P : Passed ws count s at)
-    (from t f gone : ℕ) (G : Grew ws count at s e from t f gone) where
+module _ {ws : List ℕ} {count total s e : ℕ} (S : StoredList ws count total) (h : s < e) {at : ℕ} (P : Passed ws count s at)
+    {from t f gone : ℕ} (G : Grew ws count at s e from t f gone) where
   pub cover-is : cover (pairs ws count) s e ≡ pairs ws at ++ (t, f) ∷ pairsFrom ws from (count - from)
   cover-is =
       let p : at + (count - at) ≡ count = omega (arith, P .within) in

@@ -9,7 +9,7 @@ use lib.ListN.{length, take}
 use Rattle.intervals.specs.Intervals.{Interval, Canonical, inside, holds}
 use Rattle.intervals.specs.Cover.{cover, uncover}
 use Rattle.intervals.proofs.Laws as interval
-use Rattle.item_check.specs.Checks.{Answer, answered, refused}
+use Rattle.item_check.specs.Checks.{Answer, answered, refusedAs}
 use Rattle.pairs_sort.specs.Pairs.{pairs}
 use Rattle.pairs_sort.proofs.Laws.{pairs-take, pairs-longer}
 use Rattle.position_stored.specs.Stored.{changeAnswer, changeWords, coverAnswer, coverWords, uncoverAnswer, uncoverWords}
@@ -35,7 +35,7 @@ pub record Kept : Type 0 where
 -- the words that a call has left, and the numbers of its answer; where it refuses the numbers are as they were
 abbrev pub after : Kept → List ℕ → Answer (ℕ × ℕ) → Kept
 after k vs (answered a) = record { words = vs; count = a .0; total = a .1 }
-after k vs (refused number side index) = record { words = vs; count = k .count; total = k .total }
+after k vs (refusedAs r) = record { words = vs; count = k .count; total = k .total }
 
 abbrev pub step : Kept → Step → Kept
 step k (covering s e) = after k (coverWords (k .words) (k .count) (k .total) s e) (coverAnswer (k .words) (k .count) (k .total) s e)
@@ -60,7 +60,7 @@ change-right k A R C = go (changeAnswer (k .words) (k .count) (k .total) A) refl
     go : (r : Answer (ℕ × ℕ)) → changeAnswer (k .words) (k .count) (k .total) A ≡ r
         → Right (after k (changeWords (k .words) (k .count) (k .total) A) r)
     go (answered a) q = changed-stored (changed (k .words) (k .count) (k .total) A (a .0) (a .1) q) C
-    go (refused number side index) q = rw q R
+    go (refusedAs r) q = rw q R
 
 step-right : (k : Kept) (x : Step) → Right k → Right (step k x)
 step-right k (covering s e) R =
@@ -84,7 +84,7 @@ keptRows k = holds (pairs (k .words) (k .count))
 -- a row after a change, where it is answered, and before it, where it is refused
 abbrev pub rowBy : Answer (ℕ × ℕ) → Bool → Bool → Bool
 rowBy (answered a) before now = now
-rowBy (refused number side index) before now = before
+rowBy (refusedAs r) before now = before
 
 -- the rows that f tells, after one of these: 02 §4.2, with those of a range; 02 §4.3, without them; as they were where it is refused
 abbrev pub stepRows : Kept → Step → (ℕ → Bool) → ℕ → Bool
@@ -106,7 +106,7 @@ change-holds k A p before now b n = go (changeAnswer (k .words) (k .count) (k .t
     go : (r : Answer (ℕ × ℕ)) → changeAnswer (k .words) (k .count) (k .total) A ≡ r
         → keptRows (after k (changeWords (k .words) (k .count) (k .total) A) r) p ≡ rowBy r before now
     go (answered a) q = rw (changed-pairs (changed (k .words) (k .count) (k .total) A (a .0) (a .1) q)) n
-    go (refused number side index) q = rw q b
+    go (refusedAs r) q = rw q b
 
 step-holds : (k : Kept) (x : Step) (f : ℕ → Bool) → Right k → ((p : ℕ) → keptRows k p ≡ f p) → (p : ℕ) → keptRows (step k x) p ≡ stepRows k x f p
 step-holds k (covering s e) f R same p =

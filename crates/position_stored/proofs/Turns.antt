@@ -19,8 +19,8 @@ use Rattle.position_given.proofs.Rows.{rest-apart, rest-fits}
 use Rattle.position_stored.specs.Inner.{Place, Passed, Growing, Grew, Going, Raised}
 
 -- a pair of a canonical list is nonempty
-pub some-at : (ws : List ℕ) (count from i : ℕ) → Place ws count from → i < count → start ws i < finish ws i
-some-at ws count from i P h = nonempty-at ws count 0 i 0 (P .canonical) (omega arith) (omega arith)
+pub some-at : {ws : List ℕ} {count from i : ℕ} → Place ws count from → i < count → start ws i < finish ws i
+some-at {ws} {count} {i = i} P h = nonempty-at ws count 0 i 0 (P .canonical) (omega arith) (omega arith)
 
 -- ---- halving: ends rise
 
@@ -52,8 +52,8 @@ pub halving-down : (ws : List ℕ) (count x low high mid : ℕ) → Halving ws c
 halving-down ws count x low high mid H h k l =
     record { ordered = h; within = omega (arith, H .within); before = H .before; here = λ m. l }
 
-pub halving-end : (ws : List ℕ) (count x low high : ℕ) → Halving ws count x low high → high ≤ low → Passed ws count x low
-halving-end ws count x low high H h =
+pub halving-end : {ws : List ℕ} {count x low high : ℕ} → Halving ws count x low high → high ≤ low → Passed ws count x low
+halving-end {low = low} {high = high} H h =
     let q : low ≡ high = omega (arith, H .ordered) in
     record {
       within = omega (arith, H .ordered, H .within);
@@ -67,7 +67,7 @@ pub growing-start : (ws : List ℕ) (count from s e : ℕ) → Place ws count fr
 growing-start ws count from s e P h =
     record { after = omega arith; within = P .placed; some = h; list = refl; rows = omega arith }
 
-module _ (ws : List ℕ) (count from s e i t f gone : ℕ) (G : Growing ws count from s e i t f gone) where
+module _ {ws : List ℕ} {count from s e i t f gone : ℕ} (G : Growing ws count from s e i t f gone) where
   pub growing-more : i < count → start ws i < finish ws i → start ws i ≤ f
       → Growing ws count from s e (i + 1) (min t (start ws i)) (max f (finish ws i)) (gone + (finish ws i - start ws i))
   growing-more h n l = record {
@@ -102,18 +102,16 @@ module _ (ws : List ℕ) (count from s e i t f gone : ℕ) (G : Growing ws count
     rows = G .rows;
   }
 
--- the rows that it has taken in fit a word
-pub growing-fits : (ws : List ℕ) (count from s e i t f gone : ℕ) → Growing ws count from s e i t f gone → Place ws count from → Words ws → i < count
-    → gone + (finish ws i - start ws i) < 18446744073709551616
-growing-fits ws count from s e i t f gone G P w h =
-    omega (arith, G .rows, width-more ws count i h, rest-fits ws count from (P .placed) w (P .canonical))
+  -- the rows that it has taken in fit a word
+  pub growing-fits : Place ws count from → Words ws → i < count → gone + (finish ws i - start ws i) < 18446744073709551616
+  growing-fits P w h = omega (arith, G .rows, width-more ws count i h, rest-fits ws count from (P .placed) w (P .canonical))
 
 -- ---- going whole
 
 pub going-start : (ws : List ℕ) (count from e : ℕ) → Place ws count from → Going ws count from e from 0
 going-start ws count from e P = record { after = omega arith; within = P .placed; list = refl; rows = omega arith }
 
-module _ (ws : List ℕ) (count from e i gone : ℕ) (G : Going ws count from e i gone) where
+module _ {ws : List ℕ} {count from e i gone : ℕ} (G : Going ws count from e i gone) where
   pub going-more : i < count → start ws i < finish ws i → finish ws i ≤ e
       → Going ws count from e (i + 1) (gone + (finish ws i - start ws i))
   going-more h n l = record {

@@ -50,7 +50,7 @@ left-length ws count from e P past = elim (decLt from count) [
       rw (← R .list) (pairs-length ws (count - from) from)
 ]
 
-module _ (ws : List ℕ) (count total s e : ℕ) (S : StoredList ws count total) (h : s < e) (at : ℕ) (P : Passed ws count (s + 1) at) where
+module _ {ws : List ℕ} {count total s e : ℕ} (S : StoredList ws count total) (h : s < e) {at : ℕ} (P : Passed ws count (s + 1) at) where
   front-is : uncover (pairs ws count) s e ≡ pairs ws at ++ cuts (pairsFrom ws at (count - at)) (s, e)
   front-is =
       let p : at + (count - at) ≡ count = omega (arith, P .within) in
@@ -64,7 +64,7 @@ module _ (ws : List ℕ) (count total s e : ℕ) (S : StoredList ws count total)
   unfolding cutsOf
   uncover-past k = front-is ∙ rw (pairs-end ws at count (omega arith), append-nil, k)
 
-  module _ (m : at < count) (from gone : ℕ) (G : Gone ws count at e from gone) where
+  module _ (m : at < count) {from gone : ℕ} (G : Gone ws count at e from gone) where
     kept : List Interval
     kept = cuts (pairsFrom ws from (count - from)) (0, e)
 
@@ -102,7 +102,7 @@ module _ (ws : List ℕ) (count total s e : ℕ) (S : StoredList ws count total)
     pub uncover-gone : gone ≤ total
     uncover-gone = omega (arith, parts)
 
-    module _ (vs : List ℕ) (cut : ℕ) (R : Raised ws count from e vs cut) where
+    module _ {vs : List ℕ} {cut : ℕ} (R : Raised ws count from e vs cut) where
       pub uncover-cut : cut ≤ total - gone
       uncover-cut = omega (arith, parts, R .rows)
 

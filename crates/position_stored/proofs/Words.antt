@@ -117,7 +117,7 @@ moving-start w count at from s e i h k is = go (ℕ-discrete (from - at) 1)
         let same : i ≡ from = is ∙ rw (ne-eqb (from - at) 1 q) in
         rw same (record { behind = h; within = k; left = omega arith; size = refl; whole = refl })
 
-module _ (w : List ℕ) (count at from s e : ℕ) (ws : List ℕ) (t f to i : ℕ) (M : Moving w count at from s e ws t f to i) where
+module _ {w : List ℕ} {count at from s e : ℕ} {ws : List ℕ} {t f to i : ℕ} (M : Moving w count at from s e ws t f to i) where
   pub moving-more : i < count → Moving w count at from s e (put ws to t f) (start ws i) (finish ws i) (to + 1) (i + 1)
   unfolding flatPairs
   moving-more h = record {

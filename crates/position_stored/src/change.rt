@@ -3,7 +3,7 @@ ghost use mathlib.Core.Path.{_≡_};
 ghost use mathlib.Core.Bool.{cond};
 ghost use Prim.Native.Nat.{_-_, _≤_, _<_};
 ghost use Rattle.intervals.specs.Cover.{cover, uncover};
-ghost use Rattle.item_check.specs.Checks.{answered, refused};
+ghost use Rattle.item_check.specs.Checks.{answered};
 ghost use Rattle.pairs_sort.specs.Pairs.{pairs, finish};
 ghost use Rattle.position_given.specs.Answers.{storedOf};
 ghost use Rattle.position_stored.specs.Stored.{coverAnswer, coverWords, uncoverAnswer, uncoverWords, listAnswer, listWords};
@@ -12,11 +12,11 @@ use crate::tail::place;
 use crate::tail::place_piece;
 use crate::total::check_stored;
 use item_check::Checked;
-use item_check::Refusal;
 use pairs_sort::larger;
 use position_given::LogPosition;
 use position_given::RowCount;
 use position_given::Stored;
+use position_given::no_room;
 use position_given::smaller;
 
 // Covers the rows from a start on, below an end. The answer is the new number of pairs and the new total; where it is a refusal no word
@@ -211,16 +211,6 @@ fn stored(count: usize, total: u64) -> Stored
     ensures { λ r. ⌜ storedOf r ≡ answered (count, total) ⌝ }
 {
     Stored::Pairs(count, RowCount(total))
-}
-
-fn no_room() -> Stored
-    ensures { λ r. ⌜ storedOf r ≡ refused 6 0 0 ⌝ }
-{
-    Stored::Refused(Refusal {
-        number: 6,
-        side: 0,
-        index: 0,
-    })
 }
 
 // The difference, 0 where there is none.

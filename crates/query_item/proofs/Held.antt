@@ -1,14 +1,14 @@
 -- Which keys an item holds, by its boundaries: the table of document 01 read off the order of boundaries. Assumes nothing.
 use Prim.Native.Nat.{ℕ}
 use mathlib.Core.Path.{_≡_, refl, sym, ap, _∙_}
-use mathlib.Core.Bool.{_&&_, and-true, cond}
+use mathlib.Core.Bool.{_&&_, and-true}
 use mathlib.Core.List.{List}
 use Rattle.key_order.specs.declared.Ordering.{Ordering}
 use Rattle.key_order.specs.declared.Ordering.the-variants.{Less, Equal, Greater}
 use Rattle.key_order.specs.Order.{compareNumbers, compareKeys, thenBy, isLess, isAtMost, isEqual}
 use Rattle.key_order.specs.Boundary.{atKey, inclusive, exclusiveStart, exclusiveEnd, compareBoundaries, between}
 use Rattle.key_order.proofs.Numbers.{flip}
-use Rattle.key_order.proofs.Laws.{compare-flip, compare-equal}
+use Rattle.key_order.proofs.Laws.{compare-flip, compare-same}
 use Rattle.query_item.specs.declared.QueryItem.{QueryItem}
 use Rattle.query_item.specs.declared.QueryItem.the-variants.{
   Key,
@@ -22,22 +22,21 @@ use Rattle.query_item.specs.declared.QueryItem.the-variants.{
   RangeAfterTo,
   RangeAfterToInclusive,
 }
-use Rattle.query_item.specs.declared.KeyAt.{KeyAt}
 use Rattle.query_item.specs.declared.RangeSetItem.{RangeSetItem}
-use Rattle.query_item.specs.declared.RangeSetItem.the-variants.{UnboundedStart, UnboundedEnd, Inclusive, ExclusiveStart, ExclusiveEnd}
 use Rattle.query_item.specs.declared.MaybeItem.{MaybeItem}
 use Rattle.query_item.specs.declared.MaybeItem.the-variants.{NoItem, Item}
 use Rattle.query_item.specs.Items.{bytesOf, holds}
 use Rattle.query_item.specs.Boundaries.{boundaryOf, toRangeSet, itemBetween}
+use Rattle.query_item.proofs.Between.{each-between}
 
 -- ---- at a tie of keys the kinds decide
 
-tie-equal : (o : Ordering) → isAtMost (thenBy o Equal) ≡ isAtMost o
+pub tie-equal : (o : Ordering) → isAtMost (thenBy o Equal) ≡ isAtMost o
 tie-equal Less = refl
 tie-equal Equal = refl
 tie-equal Greater = refl
 
-tie-greater : (o : Ordering) → isAtMost (thenBy o Greater) ≡ isLess o
+pub tie-greater : (o : Ordering) → isAtMost (thenBy o Greater) ≡ isLess o
 tie-greater Less = refl
 tie-greater Equal = refl
 tie-greater Greater = refl
@@ -89,30 +88,12 @@ module _ (pool : List ℕ) where
   Keeps s e NoItem = Unit {0}
   Keeps s e (Item q) = (boundaryOf pool (toRangeSet q .start) ≡ boundaryOf pool s) × (boundaryOf pool (toRangeSet q .end) ≡ boundaryOf pool e)
 
-  keeps-inclusive : (a b : KeyAt) (o : Ordering) → compareKeys (bytesOf pool a) (bytesOf pool b) ≡ o
-      → Keeps (Inclusive a) (Inclusive b) (cond (isEqual o) (Item (Key a)) (Item (RangeInclusive a b)))
-  keeps-inclusive a b Less h = (refl, refl)
-  keeps-inclusive a b Equal h = (refl, ap (λ (x : List ℕ). atKey x inclusive) (compare-equal (bytesOf pool a) (bytesOf pool b) .0 h))
-  keeps-inclusive a b Greater h = (refl, refl)
-
   pub item-keeps : (s e : RangeSetItem) → Keeps s e (itemBetween pool s e)
-  item-keeps (Inclusive a) (Inclusive b) = keeps-inclusive a b (compareKeys (bytesOf pool a) (bytesOf pool b)) refl
-  item-keeps (Inclusive a) (ExclusiveEnd b) = (refl, refl)
-  item-keeps (Inclusive a) UnboundedEnd = (refl, refl)
-  item-keeps (Inclusive a) UnboundedStart = tt
-  item-keeps (Inclusive a) (ExclusiveStart b) = tt
-  item-keeps (ExclusiveStart a) (Inclusive b) = (refl, refl)
-  item-keeps (ExclusiveStart a) (ExclusiveEnd b) = (refl, refl)
-  item-keeps (ExclusiveStart a) UnboundedEnd = (refl, refl)
-  item-keeps (ExclusiveStart a) UnboundedStart = tt
-  item-keeps (ExclusiveStart a) (ExclusiveStart b) = tt
-  item-keeps UnboundedStart (Inclusive b) = (refl, refl)
-  item-keeps UnboundedStart (ExclusiveEnd b) = (refl, refl)
-  item-keeps UnboundedStart UnboundedEnd = (refl, refl)
-  item-keeps UnboundedStart UnboundedStart = tt
-  item-keeps UnboundedStart (ExclusiveStart b) = tt
-  item-keeps UnboundedEnd e = tt
-  item-keeps (ExclusiveEnd a) e = tt
+  item-keeps =
+      each-between pool Keeps
+      (λ a b h. (refl, ap (λ (x : List ℕ). atKey x inclusive) (compare-same (bytesOf pool a) (bytesOf pool b) .0 h)))
+      (λ q h. (refl, refl))
+      (λ s e h. tt)
 
   -- so the item that two boundaries make holds what lies between them
   pub holds-converted : (s e : RangeSetItem) (q : QueryItem) (k : List ℕ) → itemBetween pool s e ≡ Item q

@@ -3,40 +3,33 @@
 use Prim.Native.Nat.{ℕ, _+_, _*_, _≤_, _<_}
 use mathlib.Core.Path.{_≡_, refl, sym, ap, ap₂, _∙_}
 use mathlib.Core.Bool.{Bool, true, false, _&&_}
-use mathlib.Core.List.{List}
+use mathlib.Core.List.{List, [], _∷_, map}
 use native.Mathlib.Decide.{decLe}
 use native.Mathlib.Omega.{arith}
+use lib.ListN.{length}
 use lib.Dec.{leb, ltb}
 use borrow.Author.Tests.{leb-true, lt-ltb, le-ltb, le-leb, lt-leb}
 use Rattle.key_order.specs.Order.{isLess, isAtMost}
-use Rattle.key_order.specs.Boundary.{between}
+use Rattle.key_order.specs.Boundary.{Boundary, between}
 use Rattle.key_order.proofs.Line.{size, past}
 use Rattle.key_order.proofs.Numbers.{Says}
 use Rattle.key_order.proofs.Ranks.{extent, rank, keyRank, rank-bound, rank-says, rank-same, boundary-less, boundary-at-most, between-rank}
 use Rattle.intervals.specs.Intervals.{Interval, inside}
+use Rattle.intervals.specs.Intervals as intervals
+use Rattle.query_item.specs.declared.ItemWords.{ItemWords}
 use Rattle.query_item.specs.declared.QueryItem.{QueryItem}
-use Rattle.query_item.specs.declared.QueryItem.the-variants.{
-  Key,
-  Range,
-  RangeInclusive,
-  RangeFull,
-  RangeFrom,
-  RangeTo,
-  RangeToInclusive,
-  RangeAfter,
-  RangeAfterTo,
-  RangeAfterToInclusive,
-}
 use Rattle.query_item.specs.declared.RangeSetItem.{RangeSetItem}
 use Rattle.query_item.specs.declared.RangeSetItem.the-variants.{UnboundedStart, UnboundedEnd, Inclusive, ExclusiveStart, ExclusiveEnd}
 use Rattle.query_item.specs.declared.RangeSet.{RangeSet}
 use Rattle.query_item.specs.declared.MaybeItem.{MaybeItem}
 use Rattle.query_item.specs.declared.MaybeItem.the-variants.{NoItem, Item}
-use Rattle.query_item.specs.Items.{holds, holdsMaybe}
-use Rattle.query_item.specs.Boundaries.{boundaryOf, compareIn, invertOf, toRangeSet, toQueryItem, upright}
+use Rattle.query_item.specs.Items.{queryItem, holds, holdsMaybe, holdsAny}
+use Rattle.query_item.specs.Boundaries.{boundaryOf, compareIn, invertOf, toRangeSet, rangeOf, toQueryItem, upright}
 use Rattle.query_item.proofs.Fits.{boundary-fits}
+use Rattle.query_item.proofs.Between.{Starts, Ends, item-sides}
 use Rattle.query_item.proofs.Held.{holds-between, holds-converted}
-use Rattle.query_item.proofs.Told.{Starts, Ends, told, Tells, item-told}
+use Rattle.query_item.proofs.Told.{told, Tells, item-told}
+use Rattle.query_item.proofs.Seen.{seen}
 
 -- n is the pool's size, or more where an asked key is larger
 module _ (pool : List ℕ) (n : ℕ) (fits : size pool ≤ n) where
@@ -72,23 +65,23 @@ module _ (pool : List ℕ) (n : ℕ) (fits : size pool ≤ n) where
   abbrev pub interval : RangeSet → Interval
   interval a = (rankIn (a .start), rankIn (a .end) + 1)
 
+  -- ranges that are the same as intervals are seen the same
+  pub same-seen : (S T : List RangeSet) → map interval S ≡ map interval T → map (seen pool) S ≡ map (seen pool) T
+  same-seen [] [] e = refl
+  same-seen [] (t ∷ T) e = absurd (omega (arith, ap length e))
+  same-seen (s ∷ S) [] e = absurd (omega (arith, ap length e))
+  same-seen (s ∷ S) (t ∷ T) e =
+      let head : interval s ≡ interval t = cc in
+      let tail : map interval S ≡ map interval T = cc in
+      let ends = ap (λ (p : Interval). p .1) head in
+      ap₂ _∷_ (ap₂ (λ (s e : Boundary). (s, e)) (rank-same-in (s .start) (t .start) (ap (λ (p : Interval). p .0) head)) (rank-same-in (s .end) (t .end) (omega arith)))
+      (same-seen S T tail)
+
   -- a range that an item can have, upright
   pub record Whole (a : RangeSet) : Type 0 where
     pub starts : Starts (a .start)
     pub ends : Ends (a .end)
     pub straight : rankIn (a .start) ≤ rankIn (a .end)
-
-  pub item-sides : (q : QueryItem) → Starts (toRangeSet q .start) × Ends (toRangeSet q .end)
-  item-sides (Key a) = (tt, tt)
-  item-sides (Range a b) = (tt, tt)
-  item-sides (RangeInclusive a b) = (tt, tt)
-  item-sides RangeFull = (tt, tt)
-  item-sides (RangeFrom a) = (tt, tt)
-  item-sides (RangeTo b) = (tt, tt)
-  item-sides (RangeToInclusive b) = (tt, tt)
-  item-sides (RangeAfter a) = (tt, tt)
-  item-sides (RangeAfterTo a b) = (tt, tt)
-  item-sides (RangeAfterToInclusive a b) = (tt, tt)
 
   pub upright-whole : (q : QueryItem) → upright pool (toRangeSet q) ≡ true → Whole (toRangeSet q)
   upright-whole q u =
@@ -121,12 +114,20 @@ module _ (pool : List ℕ) (n : ℕ) (fits : size pool ≤ n) where
       → holds pool q k ≡ inside (interval (toRangeSet q) .0) (interval (toRangeSet q) .1) (keyRank n k)
   holds-interval q k h = holds-between pool q k ∙ between-interval (toRangeSet q) k h
 
+  -- of a list, where one of its items' intervals has the rank
+  pub holds-any-interval : (its : List ItemWords) (k : List ℕ) → size k ≤ n
+      → holdsAny pool its k ≡ intervals.holds (map interval (map rangeOf its)) (keyRank n k)
+  unfolding intervals.holds holdsAny
+  holds-any-interval [] k l = refl
+  holds-any-interval (it ∷ its) k l = rw (holds-interval (queryItem it) k l, holds-any-interval its k l)
+
   -- and so by the item that two boundaries make, which a start and an end do
   pub holds-made : (a : RangeSet) → Starts (a .start) → Ends (a .end) → (k : List ℕ) → size k ≤ n
       → holdsMaybe pool (toQueryItem pool a) k ≡ inside (interval a .0) (interval a .1) (keyRank n k)
   holds-made a s e k h = go (toQueryItem pool a) refl (item-told pool (a .start) (a .end) s e) ∙ between-interval a k h
     where
-      go : (m : MaybeItem) → toQueryItem pool a ≡ m → Tells pool (a .start) (a .end) m → holdsMaybe pool m k ≡ between (boundaryOf pool (a .start)) (boundaryOf pool (a .end)) k
+      go : (m : MaybeItem) → toQueryItem pool a ≡ m → Tells pool (a .start) (a .end) m
+          → holdsMaybe pool m k ≡ between (boundaryOf pool (a .start)) (boundaryOf pool (a .end)) k
       go NoItem i t = absurd t
       go (Item q) i t = holds-converted pool (a .start) (a .end) q k i
 

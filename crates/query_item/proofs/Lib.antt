@@ -2,6 +2,7 @@ pub mod Parts
 pub mod Made
 pub mod Words
 pub mod Fits
+pub mod Between
 pub mod Held
 pub mod Told
 pub mod Shown

@@ -4,9 +4,9 @@ use mathlib.Core.Path.{_≡_, refl, sym, ap, ap₂, _∙_}
 use mathlib.Core.Bool.{_||_}
 use mathlib.Core.List.{List, [], _∷_, map}
 use native.Mathlib.Omega.{arith}
-use lib.ListN.{length}
+use lib.ListN.{length, length-map}
 use Rattle.query_item.specs.declared.ItemWords.{ItemWords}
-use Rattle.query_item.specs.Items.{queryItem, holds, holdsAny, shown}
+use Rattle.query_item.specs.Items.{queryItem, holds, holdsAny, shown, SameShown}
 use Rattle.query_item.specs.Boundaries.{rangeOf, upright}
 use Rattle.query_item.proofs.Held.{holds-between}
 use Rattle.query_item.proofs.Told.{shown-range}
@@ -19,6 +19,10 @@ module _ (P Q : List ℕ) where
   holds-shown x y e k =
       let r = shown-range P Q x y e in
       holds-between P (queryItem x) k ∙ rw (r .0, r .1) (sym (holds-between Q (queryItem y) k))
+
+  -- lists that show the same are as long
+  pub length-shown : (A B : List ItemWords) → SameShown P Q A B → length A ≡ length B
+  length-shown A B e = omega (arith, ap length e, length-map A (shown P), length-map B (shown Q))
 
   -- of lists: each item holds a key where the other list's does, and so one of them does where one of the others does
 

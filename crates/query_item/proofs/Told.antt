@@ -4,8 +4,8 @@ use Prim.Native.Nat.{ℕ}
 use mathlib.Core.Path.{_≡_, refl, ap}
 use mathlib.Core.Bool.{Bool, true, false, cond}
 use mathlib.Core.List.{List, []}
-use lib.Dec.{eqb}
 use Rattle.key_order.specs.Boundary.{exclusiveEnd, inclusive, exclusiveStart, Boundary, unboundedStart, unboundedEnd, atKey}
+use Rattle.key_order.proofs.Laws.{compare-same}
 use Rattle.query_item.specs.declared.KeyAt.{KeyAt}
 use Rattle.query_item.specs.declared.ItemWords.{ItemWords}
 use Rattle.query_item.specs.declared.QueryItem.{QueryItem}
@@ -22,27 +22,12 @@ use Rattle.query_item.specs.declared.QueryItem.the-variants.{
   RangeAfterToInclusive,
 }
 use Rattle.query_item.specs.declared.RangeSetItem.{RangeSetItem}
-use Rattle.query_item.specs.declared.RangeSetItem.the-variants.{UnboundedStart, UnboundedEnd, Inclusive, ExclusiveStart, ExclusiveEnd}
 use Rattle.query_item.specs.declared.MaybeItem.{MaybeItem}
 use Rattle.query_item.specs.declared.MaybeItem.the-variants.{NoItem, Item}
-use Rattle.query_item.specs.Items.{bytesOf, itemOf, wordsOf, same, Shown, shown}
-use Rattle.query_item.specs.Boundaries.{boundaryOf, toRangeSet, rangeOf, itemBetween}
-
--- boundaries that a range can start with, and end with
-
-abbrev pub Starts : RangeSetItem → Type 0
-Starts UnboundedStart = Unit {0}
-Starts UnboundedEnd = ⊥
-Starts (Inclusive k) = Unit {0}
-Starts (ExclusiveStart k) = Unit {0}
-Starts (ExclusiveEnd k) = ⊥
-
-abbrev pub Ends : RangeSetItem → Type 0
-Ends UnboundedStart = ⊥
-Ends UnboundedEnd = Unit {0}
-Ends (Inclusive k) = Unit {0}
-Ends (ExclusiveStart k) = ⊥
-Ends (ExclusiveEnd k) = Unit {0}
+use Rattle.query_item.specs.Items.{bytesOf, itemOf, wordsOf, queryItem, same, Shown, shown}
+use Rattle.query_item.specs.Boundaries.{boundaryOf, toRangeSet, itemBetween, toQueryItem}
+use Rattle.query_item.proofs.Words.{each-item, unknown-item}
+use Rattle.query_item.proofs.Between.{Starts, Ends, each-between}
 
 -- ---- the table, by boundaries
 
@@ -86,66 +71,55 @@ module _ (pool : List ℕ) where
   Tells s e NoItem = ⊥
   Tells s e (Item q) = shown pool (wordsOf 0 q) ≡ told (boundaryOf pool s) (boundaryOf pool e)
 
-  pub item-told : (s e : RangeSetItem) → Starts s → Ends e → Tells s e (itemBetween pool s e)
-  item-told (Inclusive a) (Inclusive b) h k = go (same (bytesOf pool a) (bytesOf pool b)) refl
+  own-told : (q : QueryItem) → toQueryItem pool (toRangeSet q) ≡ Item q → Tells (toRangeSet q .start) (toRangeSet q .end) (Item q)
+  own-told (Key a) i = rw (compare-same (bytesOf pool a) (bytesOf pool a) .1 refl)
+  own-told (Range a b) i = refl
+  own-told (RangeInclusive a b) i = go (same (bytesOf pool a) (bytesOf pool b)) i
     where
-      go : (t : Bool) → same (bytesOf pool a) (bytesOf pool b) ≡ t → Tells (Inclusive a) (Inclusive b) (cond t (Item (Key a)) (Item (RangeInclusive a b)))
-      go true e = rw e
-      go false e = rw e
-  item-told (Inclusive a) (ExclusiveEnd b) h k = refl
-  item-told (Inclusive a) UnboundedEnd h k = refl
-  item-told (Inclusive a) UnboundedStart h k = absurd k
-  item-told (Inclusive a) (ExclusiveStart b) h k = absurd k
-  item-told (ExclusiveStart a) (Inclusive b) h k = refl
-  item-told (ExclusiveStart a) (ExclusiveEnd b) h k = refl
-  item-told (ExclusiveStart a) UnboundedEnd h k = refl
-  item-told (ExclusiveStart a) UnboundedStart h k = absurd k
-  item-told (ExclusiveStart a) (ExclusiveStart b) h k = absurd k
-  item-told UnboundedStart (Inclusive b) h k = refl
-  item-told UnboundedStart (ExclusiveEnd b) h k = refl
-  item-told UnboundedStart UnboundedEnd h k = refl
-  item-told UnboundedStart UnboundedStart h k = absurd k
-  item-told UnboundedStart (ExclusiveStart b) h k = absurd k
-  item-told UnboundedEnd e h k = absurd h
-  item-told (ExclusiveEnd a) e h k = absurd h
+      go : (t : Bool) → cond t (Item (Key a)) (Item (RangeInclusive a b)) ≡ Item (RangeInclusive a b)
+          → shown pool (wordsOf 0 (RangeInclusive a b)) ≡ cond t (0, 0, bytesOf pool a, []) (2, 0, bytesOf pool a, bytesOf pool b)
+      go true e = cc
+      go false e = refl
+  own-told RangeFull i = refl
+  own-told (RangeFrom a) i = refl
+  own-told (RangeTo b) i = refl
+  own-told (RangeToInclusive b) i = refl
+  own-told (RangeAfter a) i = refl
+  own-told (RangeAfterTo a b) i = refl
+  own-told (RangeAfterToInclusive a b) i = refl
+
+  pub item-told : (s e : RangeSetItem) → Starts s → Ends e → Tells s e (itemBetween pool s e)
+  item-told =
+      each-between pool (λ s e m. Starts s → Ends e → Tells s e m)
+      (λ a b t h k. rw t)
+      (λ q i h k. own-told q i)
+      (λ s e no h k. no h k)
 
 -- ---- items that show the same, of one pool or of two, have the same boundaries
 
 module _ (P Q : List ℕ) where
-  alike : (c : ℕ) (a b d e : KeyAt) → bytesOf P a ≡ bytesOf Q d → bytesOf P b ≡ bytesOf Q e
-      → (boundaryOf P (toRangeSet (itemOf c a b) .start) ≡ boundaryOf Q (toRangeSet (itemOf c d e) .start))
-      × (boundaryOf P (toRangeSet (itemOf c a b) .end) ≡ boundaryOf Q (toRangeSet (itemOf c d e) .end))
-  alike c a b d e p q = go (eqb c 0) (eqb c 1) (eqb c 2) (eqb c 4) (eqb c 5) (eqb c 6) (eqb c 7) (eqb c 8) (eqb c 9)
-    where
-      pick : Bool → Bool → Bool → Bool → Bool → Bool → Bool → Bool → Bool → KeyAt → KeyAt → QueryItem
-      pick t0 t1 t2 t4 t5 t6 t7 t8 t9 x y =
-          cond t0 (Key x)
-          (cond t1 (Range x y)
-          (cond t2 (RangeInclusive x y)
-          (cond t4 (RangeFrom x)
-          (cond t5 (RangeTo y)
-          (cond t6 (RangeToInclusive y)
-          (cond t7 (RangeAfter x)
-          (cond t8 (RangeAfterTo x y)
-          (cond t9 (RangeAfterToInclusive x y)
-          RangeFull))))))))
+  abbrev Alike : QueryItem → QueryItem → Type 0
+  Alike x y =
+      (boundaryOf P (toRangeSet x .start) ≡ boundaryOf Q (toRangeSet y .start))
+      × (boundaryOf P (toRangeSet x .end) ≡ boundaryOf Q (toRangeSet y .end))
 
-      go : (t0 t1 t2 t4 t5 t6 t7 t8 t9 : Bool)
-          → (boundaryOf P (toRangeSet (pick t0 t1 t2 t4 t5 t6 t7 t8 t9 a b) .start) ≡ boundaryOf Q (toRangeSet (pick t0 t1 t2 t4 t5 t6 t7 t8 t9 d e) .start))
-          × (boundaryOf P (toRangeSet (pick t0 t1 t2 t4 t5 t6 t7 t8 t9 a b) .end) ≡ boundaryOf Q (toRangeSet (pick t0 t1 t2 t4 t5 t6 t7 t8 t9 d e) .end))
-      go true t1 t2 t4 t5 t6 t7 t8 t9 = (cc, cc)
-      go false true t2 t4 t5 t6 t7 t8 t9 = (cc, cc)
-      go false false true t4 t5 t6 t7 t8 t9 = (cc, cc)
-      go false false false true t5 t6 t7 t8 t9 = (cc, refl)
-      go false false false false true t6 t7 t8 t9 = (refl, cc)
-      go false false false false false true t7 t8 t9 = (refl, cc)
-      go false false false false false false true t8 t9 = (cc, refl)
-      go false false false false false false false true t9 = (cc, cc)
-      go false false false false false false false false true = (cc, cc)
-      go false false false false false false false false false = (refl, refl)
+  alike : (c : ℕ) (a b d e : KeyAt) → bytesOf P a ≡ bytesOf Q d → bytesOf P b ≡ bytesOf Q e → Alike (itemOf c a b) (itemOf c d e)
+  alike c a b d e p q =
+      each-item a b (λ c x. Alike x (itemOf c d e))
+      (cc, cc)
+      (cc, cc)
+      (cc, cc)
+      (refl, refl)
+      (cc, refl)
+      (refl, cc)
+      (refl, cc)
+      (cc, refl)
+      (cc, cc)
+      (cc, cc)
+      (λ c h. rw (unknown-item d e c h) (refl, refl))
+      c
 
-  pub shown-range : (x y : ItemWords) → shown P x ≡ shown Q y
-      → (boundaryOf P (rangeOf x .start) ≡ boundaryOf Q (rangeOf y .start)) × (boundaryOf P (rangeOf x .end) ≡ boundaryOf Q (rangeOf y .end))
+  pub shown-range : (x y : ItemWords) → shown P x ≡ shown Q y → Alike (queryItem x) (queryItem y)
   shown-range x y e =
       rw (ap (λ (s : Shown). s .0) e)
       (alike (y .code) (x .start) (x .end) (y .start) (y .end) (ap (λ (s : Shown). s .2) e) (ap (λ (s : Shown). s .3) e))

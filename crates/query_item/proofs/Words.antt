@@ -1,10 +1,14 @@
 -- Items as words: what is written reads back; and words that are not whole, where what is past the list's end reads as 0. Assumes nothing.
-use Prim.Native.Nat.{ℕ, zero, suc, _+_, _*_, _≤_, min}
+use Prim.Native.Nat.{ℕ, zero, suc, _+_, _*_, _≤_, _<_, min}
 use mathlib.Core.Path.{_≡_, refl, sym, ap, _∙_}
+use mathlib.Core.Bool.{false}
 use mathlib.Core.List.{List}
 use native.Mathlib.Decide.{decLe}
 use native.Mathlib.Omega.{arith}
 use lib.ListN.{length, getD, List·getD-eq-default}
+use lib.Dec.{eqb}
+use borrow.Author.Tests.{ne-eqb}
+use Rattle.query_item.specs.declared.KeyAt.{KeyAt}
 use Rattle.query_item.specs.declared.QueryItem.{QueryItem}
 use Rattle.query_item.specs.declared.QueryItem.the-variants.{
   Key,
@@ -18,7 +22,7 @@ use Rattle.query_item.specs.declared.QueryItem.the-variants.{
   RangeAfterTo,
   RangeAfterToInclusive,
 }
-use Rattle.query_item.specs.Items.{keyAt, itemWords, wordsOf, queryItem, itemSize, itemAt}
+use Rattle.query_item.specs.Items.{itemOf, keyAt, itemWords, wordsOf, queryItem, itemSize, itemAt}
 
 pub query-words : (w : ℕ) (q : QueryItem) → queryItem (wordsOf w q) ≡ q
 query-words w (Key a) = refl
@@ -81,3 +85,28 @@ each-code P p0 p1 p2 p3 p4 p5 p6 p7 p8 p9 (suc (suc (suc (suc (suc (suc (suc zer
 each-code P p0 p1 p2 p3 p4 p5 p6 p7 p8 p9 (suc (suc (suc (suc (suc (suc (suc (suc zero)))))))) h = p8
 each-code P p0 p1 p2 p3 p4 p5 p6 p7 p8 p9 (suc (suc (suc (suc (suc (suc (suc (suc (suc zero))))))))) h = p9
 each-code P p0 p1 p2 p3 p4 p5 p6 p7 p8 p9 (suc (suc (suc (suc (suc (suc (suc (suc (suc (suc c)))))))))) h = absurd (omega arith)
+
+-- the item of a code, a start and an end: a line of the table, or the full range where the table has no line for the code
+module _ (a b : KeyAt) where
+  pub unknown-item : (c : ℕ) → 9 < c → itemOf c a b ≡ RangeFull
+  unknown-item c h =
+      let no : (n : ℕ) → n ≤ 9 → eqb c n ≡ false = (λ n l. ne-eqb c n (λ e. omega arith)) in
+      rw (
+        no 0 (omega arith),
+        no 1 (omega arith),
+        no 2 (omega arith),
+        no 4 (omega arith),
+        no 5 (omega arith),
+        no 6 (omega arith),
+        no 7 (omega arith),
+        no 8 (omega arith),
+        no 9 (omega arith),
+      )
+
+  pub each-item : (P : ℕ → QueryItem → Type 0)
+      → P 0 (Key a) → P 1 (Range a b) → P 2 (RangeInclusive a b) → P 3 RangeFull → P 4 (RangeFrom a) → P 5 (RangeTo b) → P 6 (RangeToInclusive b) → P 7 (RangeAfter a) → P 8 (RangeAfterTo a b) → P 9 (RangeAfterToInclusive a b)
+      → ((c : ℕ) → 9 < c → P c RangeFull) → (c : ℕ) → P c (itemOf c a b)
+  each-item P p0 p1 p2 p3 p4 p5 p6 p7 p8 p9 more c = elim (decLe c 9) [
+    | yes h ↦ each-code (λ (d : ℕ). P d (itemOf d a b)) p0 p1 p2 p3 p4 p5 p6 p7 p8 p9 c h
+    | no h ↦ rw (unknown-item c (omega arith)) (more c (omega arith))
+  ]

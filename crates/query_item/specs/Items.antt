@@ -1,6 +1,7 @@
 -- Items: the keys that they name, their words and codes, and which keys they hold. Definitions only. Assumes nothing.
 use Prim.Native.Nat.{ℕ, zero, suc, _+_, _*_, _/_}
-use mathlib.Core.List.{List, [], _∷_, _++_}
+use mathlib.Core.Path.{_≡_}
+use mathlib.Core.List.{List, [], _∷_, _++_, map}
 use mathlib.Core.Bool.{Bool, true, false, cond, _||_, _&&_}
 use lib.ListN.{length, getD, take, drop}
 use lib.Seq.{sets}
@@ -53,6 +54,10 @@ absent = keyAt 0 0
 
 abbrev pub itemWords : ℕ → ℕ → KeyAt → KeyAt → ItemWords
 itemWords c w a b = record { code = c; wrapper = w; start = a; end = b }
+
+-- 02 §6.4: an item with other keys; what else it has stays
+abbrev pub withKeys : ItemWords → KeyAt → KeyAt → ItemWords
+withKeys it a b = itemWords (it .code) (it .wrapper) a b
 
 abbrev pub wordsOf : ℕ → QueryItem → ItemWords
 wordsOf w (Key a) = itemWords 0 w a absent
@@ -135,6 +140,10 @@ Shown = ℕ × ℕ × List ℕ × List ℕ
 
 abbrev pub shown : List ℕ → ItemWords → Shown
 shown pool it = (it .code, it .wrapper, bytesOf pool (it .start), bytesOf pool (it .end))
+
+-- 01 demand.3, 02 §6.5, §10.1: so are lists of items, one by one, whatever pools their keys stand in
+abbrev pub SameShown : List ℕ → List ℕ → List ItemWords → List ItemWords → Type 0
+SameShown P Q A B = map (shown P) A ≡ map (shown Q) B
 
 -- 01 demand.2: a list holds a key when one of its items does, by the table
 unfoldable pub holdsAny : List ℕ → List ItemWords → List ℕ → Bool

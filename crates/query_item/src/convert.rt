@@ -10,7 +10,7 @@ use crate::QueryItem;
 use crate::RangeSet;
 use crate::RangeSetItem;
 use crate::pooled::compare_keys;
-use boundary::is_equal;
+use key_order::is_equal;
 
 impl QueryItem {
     // inner: the two boundaries of an item.

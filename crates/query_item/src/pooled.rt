@@ -1,6 +1,6 @@
 // Boundaries whose keys are parts of a pool: their order, and `invert`. The crate `boundary` has the same on a kind beside lent bytes.
 ghost use mathlib.Core.Path.{_≡_};
-ghost use Prim.Native.Nat.{_+_, _<_, min};
+ghost use Prim.Native.Nat.{_+_, _<_};
 ghost use mathlib.Core.Bool.{cond};
 ghost use lib.Dec.{eqb};
 ghost use Rattle.key_order.specs.Order.{compareKeys, orderNumber, isLess, isAtMost};
@@ -13,6 +13,7 @@ use boundary::invert;
 use boundary::is_bounded;
 use boundary::rung_of;
 use key_order::Ordering;
+use key_order::least;
 use key_order::order_of;
 use key_order::stand;
 use key_order::stand_numbers;
@@ -24,13 +25,6 @@ pub fn key_bytes(pool: &[u8], key: KeyAt) -> &[u8]
     let from = least(key.offset as usize, pool.len());
     let to = from + least(key.length as usize, pool.len() - from);
     &pool[from..to]
-}
-
-// inner: the smaller of two counts.
-pub fn least(x: usize, y: usize) -> usize
-    ensures { λ r. ⌜ r ≡ min x y ⌝ }
-{
-    if x < y { x } else { y }
 }
 
 // How two keys of a pool stand, as a number.

@@ -1,22 +1,19 @@
 -- Where a direction is answered no, no key between the boundaries stands there. Assumes nothing.
 use Prim.Native.Nat.{ℕ, _+_, _≤_}
-use mathlib.Core.Path.{_≡_, refl, sym, _∙_}
-use mathlib.Core.Bool.{Bool, true, false, _&&_, false≢true}
+use mathlib.Core.Path.{_≡_, sym, _∙_}
+use mathlib.Core.Bool.{true, false}
 use mathlib.Core.List.{List}
 use native.Mathlib.Omega.{arith}
 use lib.Dec.{ltb}
 use borrow.Author.Tests.{leb-true, ltb-false, le-ltb}
 use Rattle.key_order.specs.Order.{compareKeys}
 use Rattle.key_order.specs.Boundary.{Boundary, unboundedStart, unboundedEnd, atKey, between}
+use Rattle.key_order.proofs.Bools.{both-true}
 use Rattle.key_order.proofs.Numbers.{says-less}
 use Rattle.key_order.proofs.Line.{size, place, place-says}
 use Rattle.key_order.proofs.Ranks.{extent, rank, keyRank, level-bound, between-rank}
 use Rattle.query_item.specs.Items.{below}
 use Rattle.range_borrowed.specs.Borrowed.{mayStandLeft, mayStandRight}
-
-and-true-both : (p q : Bool) → p && q ≡ true → (p ≡ true) × (q ≡ true)
-and-true-both true q e = (refl, e)
-and-true-both false q e = absurd (false≢true e)
 
 -- the order of keys is that of their places
 below-place : (n : ℕ) (x y : List ℕ) → size x ≤ n → size y ≤ n → below x y ≡ ltb (place n x) (place n y)
@@ -28,7 +25,7 @@ module _ (s e : Boundary) (key k : List ℕ) (held : between s e k ≡ true) whe
 
   ranks : (rank n s ≤ keyRank n k) × (keyRank n k ≤ rank n e)
   ranks =
-      let both = and-true-both _ _ (sym (between-rank n s e k (omega arith) (omega arith) (omega arith)) ∙ held) in
+      let both = both-true _ _ (sym (between-rank n s e k (omega arith) (omega arith) (omega arith)) ∙ held) in
       (leb-true _ _ (both .0), leb-true _ _ (both .1))
 
 pub none-left : (s e : Boundary) (key k : List ℕ) → between s e k ≡ true → mayStandLeft s key ≡ false → below k key ≡ false

@@ -5,13 +5,13 @@ ghost use mathlib.Core.Path.{_≡_};
 ghost use Rattle.query_item.specs.Items.{bytesOf};
 ghost use Rattle.query_item.specs.Boundaries.{rangeOf, keyOf, kindOf, boundaryOf};
 ghost use Rattle.range_borrowed.specs.Kinds.{kindNumber, kindNumbered};
-ghost use Rattle.range_borrowed.specs.Borrowed.{lent, containmentBetween, mayStand};
+ghost use Rattle.range_borrowed.specs.Borrowed.{lent, lentStart, lentEnd, Lends, containmentBetween, mayStand};
 use boundary::BoundaryKind;
 use boundary::compare_boundaries;
-use boundary::is_equal;
-use boundary::is_less;
 use item_words::query_item;
 use key_order::compare;
+use key_order::is_equal;
+use key_order::is_less;
 use query_item::ItemWords;
 use query_item::pooled::key_bytes;
 use query_item::pooled::key_of;
@@ -149,7 +149,7 @@ fn end_kind(item: ItemWords) -> u32
 
 // inner: the range of an item: its two keys are parts of the pool, and nothing is copied (01 m2.7, form.10).
 pub fn to_range_set_borrowed<'a>(pool: &'a [u8], item: ItemWords) -> RangeSetBorrowed<'a>
-    ensures { λ r. ⌜ (now (r .start) ≡ bytesOf (now (pool .entry)) (keyOf (rangeOf item .start))) × (now (r .end) ≡ bytesOf (now (pool .entry)) (keyOf (rangeOf item .end))) × (r .«start_kind» ≡ kindNumber (kindOf (rangeOf item .start))) × (r .«end_kind» ≡ kindNumber (kindOf (rangeOf item .end))) ⌝ }
+    ensures { λ r. ⌜ Lends (now (pool .entry)) (rangeOf item) r ⌝ }
 {
     RangeSetBorrowed {
         start: start_bytes(pool, item),
@@ -162,14 +162,14 @@ pub fn to_range_set_borrowed<'a>(pool: &'a [u8], item: ItemWords) -> RangeSetBor
 impl<'a> RangeSetBorrowed<'a> {
     // Whether the range holds a key, and whether the key sits on an exclusive bound (01 m2.3).
     pub fn could_contain_key(self, key: &[u8]) -> KeyContainmentResult
-        ensures { λ r. ⌜ r ≡ containmentBetween (lent (now (self .entry .start)) (self .entry .«start_kind»)) (lent (now (self .entry .end)) (self .entry .«end_kind»)) (now (key .entry)) ⌝ }
+        ensures { λ r. ⌜ r ≡ containmentBetween (lentStart (self .entry)) (lentEnd (self .entry)) (now (key .entry)) ⌝ }
     {
         contains(self.start, self.start_kind, self.end, self.end_kind, key)
     }
 
     // Whether keys of the range may stand in a direction of a key. No means that none does (01 m2.4).
     pub fn could_have_items_in_direction(self, key: &[u8], direction: Direction) -> bool
-        ensures { λ r. ⌜ r ≡ mayStand (lent (now (self .entry .start)) (self .entry .«start_kind»)) (lent (now (self .entry .end)) (self .entry .«end_kind»)) (now (key .entry)) direction ⌝ }
+        ensures { λ r. ⌜ r ≡ mayStand (lentStart (self .entry)) (lentEnd (self .entry)) (now (key .entry)) direction ⌝ }
     {
         may_stand(
             self.start,

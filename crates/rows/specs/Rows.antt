@@ -13,12 +13,12 @@ use Rattle.key_order.specs.Boundary.{compareBoundaries}
 use Rattle.boundary.specs.declared.BoundaryKind.the-variants.{ExclusiveEnd, Inclusive, ExclusiveStart}
 use Rattle.query_item.specs.declared.KeyAt.{KeyAt}
 use Rattle.query_item.specs.declared.ItemWords.{ItemWords}
-use Rattle.query_item.specs.declared.QueryItem.{QueryItem}
 use Rattle.query_item.specs.declared.MaybeItem.{MaybeItem}
-use Rattle.query_item.specs.Items.{keyAt, absent, itemWords, wordsOf, flatAll, Shown, shown}
+use Rattle.query_item.specs.Items.{keyAt, absent, itemWords, flatAll, Shown, shown}
 use Rattle.boundary.specs.Kinds.{boundary}
 use Rattle.intervals.specs.Intervals.{Interval}
-use Rattle.item_check.specs.Checks.{Answer, answered, refused, Verdict, itemsOf}
+use Rattle.item_check.specs.declared.Refusal.{Refusal}
+use Rattle.item_check.specs.Checks.{Answer, answered, refusedAs, Verdict, itemsOf}
 use Rattle.intersect_many.specs.declared.ManyCounts.{ManyCounts}
 use Rattle.intersect.specs.declared.QueryItemIntersectionResult.{QueryItemIntersectionResult}
 use Rattle.item_lists.specs.Written.{asItems}
@@ -31,9 +31,10 @@ use Rattle.position_given.specs.Inner.{lastWord}
 use Rattle.position_key.specs.Keys.{keySize}
 use Rattle.position_query.specs.Covered.{queryVerdict}
 use Rattle.position_query.specs.Ranges.{coveredPairs}
-use Rattle.krl_listing.specs.Listing.{joined}
+use Rattle.krl_listing.specs.Listing.{textOfLines}
 use Rattle.krl_program.specs.Program.{programText}
 use Rattle.position_report.specs.declared.PositionMismatch.{PositionMismatch}
+use Rattle.position_report.specs.Reports.{reportAt}
 use Rattle.position_mismatch.specs.Reports.{missingAnswer}
 
 -- what a row gives: orders; the program's text; the pair's shared part, our two leftovers and their two; the three lists; pairs of positions;
@@ -47,7 +48,7 @@ pub data Result : Type 0 where
   yesOrNo : Bool → Result
   report : PositionMismatch → Result
   list : List Shown → Result
-  refusal : ℕ → ℕ → ℕ → Result
+  refusing : Refusal → Result
 
 -- ---- items, as document 01 writes them: code, keys by place in the pool 01 02 .. 09, so that the key k is the byte at k - 1
 
@@ -70,8 +71,8 @@ fromEmpty = itemWords 4 0 absent absent
 
 -- ---- the calls' definitions, as results
 
-abbrev itemsShown : List ℕ → List QueryItem → List Shown
-itemsShown pool Q = map (shown pool) (map (wordsOf 0) Q)
+abbrev itemsShown : List ℕ → List ItemWords → List Shown
+itemsShown pool its = map (shown pool) its
 
 abbrev itemShown : List ℕ → MaybeItem → List Shown
 itemShown pool m = itemsShown pool (asItems m)
@@ -80,7 +81,7 @@ abbrev pairResult : List ℕ → Answer QueryItemIntersectionResult → Result
 pairResult pool (answered p) =
     parts (itemShown pool (p .«in_both»)) (itemShown pool (p .«ours_left»)) (itemShown pool (p .«ours_right»))
     (itemShown pool (p .«theirs_left»)) (itemShown pool (p .«theirs_right»))
-pairResult pool (refused number side index) = refusal number side index
+pairResult pool (refusedAs r) = refusing r
 
 abbrev pairOf : ItemWords → ItemWords → Result
 pairOf ours theirs = pairResult digits (pairAnswer digits ours theirs)
@@ -113,7 +114,7 @@ room = flatAll (full ∷ full ∷ full ∷ [])
 abbrev listResult : List ℕ → List ℕ → List ℕ → Answer ManyCounts → Result
 listResult pool ours theirs (answered c) =
     lists (itemsShown pool (sharedItems pool ours theirs)) (itemsShown pool (onlyItems pool ours theirs)) (itemsShown pool (onlyItems pool theirs ours))
-listResult pool ours theirs (refused number side index) = refusal number side index
+listResult pool ours theirs (refusedAs r) = refusing r
 
 abbrev listsOf : List ItemWords → List ItemWords → Result
 listsOf ours theirs = listResult digits (flatAll ours) (flatAll theirs) (manyAnswer digits (flatAll ours) (flatAll theirs) room room room)
@@ -121,7 +122,7 @@ listsOf ours theirs = listResult digits (flatAll ours) (flatAll theirs) (manyAns
 -- the pairs that a query makes, where the checks of its items accept it
 abbrev queryResult : List Interval → Verdict → Result
 queryResult A (answered u) = intervals A
-queryResult A (refused number side index) = refusal number side index
+queryResult A (refusedAs r) = refusing r
 
 abbrev pairsOf : List ℕ → List ItemWords → ℕ → List Interval
 pairsOf pool its count = coveredPairs pool count (itemsOf (flatAll its))
@@ -131,16 +132,16 @@ queryOf pool its count = queryResult (pairsOf pool its count) (queryVerdict pool
 
 abbrev containsResult : Answer Bool → Result
 containsResult (answered b) = yesOrNo b
-containsResult (refused number side index) = refusal number side index
+containsResult (refusedAs r) = refusing r
 
 abbrev missingResult : Answer PositionMismatch → Result
 missingResult (answered r) = report r
-missingResult (refused number side index) = refusal number side index
+missingResult (refusedAs r) = refusing r
 
 -- a buffer of the list and room for three items more
 abbrev insertResult : List ItemWords → Answer ℕ → Result
 insertResult after (answered n) = list (map (shown digits) after)
-insertResult after (refused number side index) = refusal number side index
+insertResult after (refusedAs r) = refusing r
 
 abbrev insertOf : List ItemWords → ItemWords → Result
 insertOf its new =
@@ -150,8 +151,8 @@ insertOf its new =
 abbrev key : ℕ → Shown
 key a = (0, 0, a ∷ [], [])
 
-abbrev between : ℕ → ℕ → ℕ → Shown
-between code a b = (code, 0, a ∷ [], b ∷ [])
+abbrev range : ℕ → ℕ → ℕ → Shown
+range code a b = (code, 0, a ∷ [], b ∷ [])
 
 abbrev upTo : ℕ → ℕ → Shown
 upTo code b = (code, 0, [], b ∷ [])
@@ -181,11 +182,11 @@ rows =
     -- 01 P1: key 05: ExclusiveEnd < Inclusive < ExclusiveStart
     (orders (compareBoundaries (boundary ExclusiveEnd (5 ∷ [])) (boundary Inclusive (5 ∷ [])) ∷ compareBoundaries (boundary Inclusive (5 ∷ [])) (boundary ExclusiveStart (5 ∷ [])) ∷ []), orders (Less ∷ Less ∷ []))
     -- 01 P2: [01,05), Key 03: as the listing
-    ∷ (text (programText documentFile), text (joined documentLines))
+    ∷ (text (programText documentFile), text (textOfLines documentLines))
     -- 01 P3: [01,05), [05,09]: nothing shared; ours left, theirs right
-    ∷ (pairOf (two 1 0 4) (two 2 4 8), parts [] (between 1 1 5 ∷ []) [] [] (between 2 5 9 ∷ []))
+    ∷ (pairOf (two 1 0 4) (two 2 4 8), parts [] (range 1 1 5 ∷ []) [] [] (range 2 5 9 ∷ []))
     -- 01 P4: (05,09], [01,05]: nothing shared; ours right, theirs left
-    ∷ (pairOf (two 9 4 8) (two 2 0 4), parts [] [] (between 9 5 9 ∷ []) (between 2 1 5 ∷ []) [])
+    ∷ (pairOf (two 9 4 8) (two 2 0 4), parts [] [] (range 9 5 9 ∷ []) (range 2 1 5 ∷ []) [])
     -- 01 P5: [05,05], full: Key 05; theirs RangeTo 05, RangeAfter 05
     ∷ (pairOf (two 2 4 4) full, parts (key 5 ∷ []) [] [] (upTo 5 5 ∷ []) (startsAt 7 5 ∷ []))
     -- 01 P6: full, RangeFrom -: RangeFrom -; ours left RangeTo -
@@ -193,7 +194,7 @@ rows =
     -- 02 §2.4: P6's two items as lists of one: shared RangeFrom -, and nothing is left
     ∷ (listsOf (full ∷ []) (fromEmpty ∷ []), lists ((4, 0, [], []) ∷ []) [] [])
     -- 01 P7: {[01,03],[07,09]}, {[02,08]}: shared [02,03],[07,08]; ours [01,02),(08,09]; theirs (03,07)
-    ∷ (listsOf (two 2 0 2 ∷ two 2 6 8 ∷ []) (two 2 1 7 ∷ []), lists (between 2 2 3 ∷ between 2 7 8 ∷ []) (between 1 1 2 ∷ between 9 8 9 ∷ []) (between 8 3 7 ∷ []))
+    ∷ (listsOf (two 2 0 2 ∷ two 2 6 8 ∷ []) (two 2 1 7 ∷ []), lists (range 2 2 3 ∷ range 2 7 8 ∷ []) (range 1 1 2 ∷ range 9 8 9 ∷ []) (range 8 3 7 ∷ []))
     -- 01 P8: {}, {Key 04}: theirs Key 04
     ∷ (listsOf [] (one 0 3 ∷ []), lists [] [] (key 4 ∷ []))
     -- 01 P9: positions [2,5), 5, [5,7]: count 100: 2..8; count 6: 2..6
@@ -203,9 +204,9 @@ rows =
     ∷ (queryOf [] (full ∷ []) lastWord, intervals ((0, 18446744073709551615) ∷ []))
     ∷ (containsResult (containsAnswer (flatPairs (pairsOf [] (full ∷ []) lastWord)) lastWord), yesOrNo false)
     -- 01 P11: 0..20, proved 3: 19 missing; 0,1,2,4 to 16
-    ∷ (missingResult (missingAnswer (0 ∷ 20 ∷ []) (3 ∷ [])), report (record { total = 19; count = 16; examples = 0 ∷ 1 ∷ 2 ∷ 4 ∷ 5 ∷ 6 ∷ 7 ∷ 8 ∷ 9 ∷ 10 ∷ 11 ∷ 12 ∷ 13 ∷ 14 ∷ 15 ∷ 16 ∷ [] }))
+    ∷ (missingResult (missingAnswer (0 ∷ 20 ∷ []) (3 ∷ [])), report (reportAt 19 16 (0 ∷ 1 ∷ 2 ∷ 4 ∷ 5 ∷ 6 ∷ 7 ∷ 8 ∷ 9 ∷ 10 ∷ 11 ∷ 12 ∷ 13 ∷ 14 ∷ 15 ∷ 16 ∷ [])))
     -- 01 P12: {[01,03],05,09}, insert [02,06): {[01,06),09}
-    ∷ (insertOf (two 2 0 2 ∷ one 0 4 ∷ one 0 8 ∷ []) (two 1 1 5), list (between 1 1 6 ∷ key 9 ∷ []))
+    ∷ (insertOf (two 2 0 2 ∷ one 0 4 ∷ one 0 8 ∷ []) (two 1 1 5), list (range 1 1 6 ∷ key 9 ∷ []))
     -- 01 P13: {[01,05)}, insert [05,09]: both stay
-    ∷ (insertOf (two 1 0 4 ∷ []) (two 2 4 8), list (between 1 1 5 ∷ between 2 5 9 ∷ []))
+    ∷ (insertOf (two 1 0 4 ∷ []) (two 2 4 8), list (range 1 1 5 ∷ range 2 5 9 ∷ []))
     ∷ []

@@ -9,8 +9,8 @@ use lib.ListN.{length}
 use lib.Dec.{ltb}
 use borrow.Author.Tests.{ltb-false, le-ltb}
 use Rattle.query_item.specs.Items.{itemSize}
-use Rattle.item_check.specs.Checks.{Answer, answered, refused, Verdict, accepted, mostItems, mostPool, poolVerdict, andThen}
-use Rattle.item_check.proofs.Laws.{All, accepts, refuses, or-false, pool-passes}
+use Rattle.item_check.specs.Checks.{Answer, answered, refused, refusal, Verdict, accepted, mostItems, mostPool, poolVerdict, andThen}
+use Rattle.item_check.proofs.Laws.{All, accepts, refuses, both-false, pool-passes}
 use Rattle.item_lists.specs.Written.{passes, putAll, Put}
 use Rattle.item_lists.proofs.Written.{put-laid}
 use Rattle.lent_text.specs.Text.{stored}
@@ -52,22 +52,22 @@ long-passes n (l ∷ ls) = go (isLong l) (long-passes (suc n) ls)
   where
     go : (t : Bool) → firstLong (suc n) ls ≡ accepted ↔ All (λ l. isLong l ≡ false) ls
         → cond t (refused 2 0 n) (firstLong (suc n) ls) ≡ accepted ↔ ((t ≡ false) × All (λ l. isLong l ≡ false) ls)
-    go true rest = (λ e. absurd (false≢true (sym (refuses true 2 0 n .0 e))), λ e. absurd (false≢true (sym (e .0))))
+    go true rest = (λ e. absurd (false≢true (sym (refuses true (refusal 2 0 n) .0 e))), λ e. absurd (false≢true (sym (e .0))))
     go false rest = (λ e. (refl, rest .0 e), λ e. rest .1 (e .1))
 
 room-passes : (items bytes : ℕ) (pool out : List ℕ)
     → roomVerdict items bytes pool out ≡ accepted ↔ ((bytes ≤ length pool) × (items ≤ length out / itemSize) × (items ≤ mostItems))
 room-passes items bytes pool out =
-    let one = refuses (ltb (length pool) bytes || passes items out || ltb mostItems items) 6 0 0 in
-    let last = or-false (ltb (length pool) bytes || passes items out) (ltb mostItems items) in
-    let first = or-false (ltb (length pool) bytes) (passes items out) in (
+    let one = refuses (ltb (length pool) bytes || passes items out || ltb mostItems items) (refusal 6 0 0) in
+    let last = both-false (ltb (length pool) bytes || passes items out) (ltb mostItems items) in
+    let first = both-false (ltb (length pool) bytes) (passes items out) in (
       λ e. let b = last .0 (one .0 e) in let c = first .0 (b .0) in (ltb-false _ _ (c .0), ltb-false _ _ (c .1), ltb-false _ _ (b .1)),
       λ p. one .1 (last .1 (first .1 (le-ltb _ _ (p .0), le-ltb _ _ (p .1)), le-ltb _ _ (p .2))),
     )
 
 -- a sheet passes exactly where that holds
 pub reads : (s : Sheet) (pool out : List ℕ) → sheetVerdict s pool out ≡ accepted ↔ Reads s pool out
-reads (badAt n) pool out = (λ e. absurd (false≢true (sym (refuses true 12 0 n .0 e))), λ r. absurd (false≢true (r .good)))
+reads (badAt n) pool out = (λ e. absurd (false≢true (sym (refuses true (refusal 12 0 n) .0 e))), λ r. absurd (false≢true (r .good)))
 reads (lanes ls) pool out =
     let room = roomVerdict (length ls) (length (packedKeys ls)) pool out in
     let first = accepts (poolVerdict pool) (andThen (firstLong 0 ls) room) in

@@ -12,14 +12,14 @@ use borrow.Author.Tests.{leb-true, eqb-true}
 use Rattle.lent_text.specs.Text.{stored}
 use Rattle.lent_text.proofs.Laws.{stored-append, stored-none}
 use Rattle.item_name.proofs.Laws.{other-length}
-use Rattle.sheet_row.proofs.Laws.{and-right}
+use Rattle.key_order.proofs.Bools.{both-true}
 use Rattle.sheet_read.specs.Passes.{Digits}
 use Rattle.sheet_row.specs.Lanes.{isDecimal, isUpper, isLower, isHex, hexValue, allHex, isKey, fitsField, hexBytes}
 
 -- ---- a digit
 
-pub between : (lo hi c : ℕ) → leb lo c && leb c hi ≡ true → (lo ≤ c) × (c ≤ hi)
-between lo hi c h = go (leb lo c) (leb c hi) refl refl h
+pub within : (lo hi c : ℕ) → leb lo c && leb c hi ≡ true → (lo ≤ c) × (c ≤ hi)
+within lo hi c h = go (leb lo c) (leb c hi) refl refl h
   where
     go : (s t : Bool) → leb lo c ≡ s → leb c hi ≡ t → s && t ≡ true → (lo ≤ c) × (c ≤ hi)
     go true true d e q = (leb-true lo c d, leb-true c hi e)
@@ -33,9 +33,9 @@ value-hex c h = go (isDecimal c) (isUpper c) (isLower c) refl refl refl h
   where
     go : (d u l : Bool) → isDecimal c ≡ d → isUpper c ≡ u → isLower c ≡ l → d || u || l ≡ true
         → (c % 16 + 9 * (c / 64) ≡ cond d (c - 48) (cond u (c - 55) (cond l (c - 87) 0))) × (c % 16 + 9 * (c / 64) < 16)
-    go true u l d e f q = (omega (arith, between 48 57 c d), omega (arith, between 48 57 c d))
-    go false true l d e f q = (omega (arith, between 65 70 c e), omega (arith, between 65 70 c e))
-    go false false true d e f q = (omega (arith, between 97 102 c f), omega (arith, between 97 102 c f))
+    go true u l d e f q = (omega (arith, within 48 57 c d), omega (arith, within 48 57 c d))
+    go false true l d e f q = (omega (arith, within 65 70 c e), omega (arith, within 65 70 c e))
+    go false false true d e f q = (omega (arith, within 97 102 c f), omega (arith, within 97 102 c f))
     go false false false d e f q = absurd (false≢true q)
 
 -- ---- two by two
@@ -85,7 +85,7 @@ all-hex (c ∷ s) h (suc i) l = all-hex s (hex-step c (allHex s) h .1) i (omega 
 key-digits : (s : List ℕ) → isKey s ≡ true → Digits s
 key-digits s h i l =
     let long = rw (other-length s (45 ∷ []) (λ e. omega arith)) at h in
-    let every = all-hex s (and-right (not (eqb (length s) 0) && eqb (length s % 2) 0) (allHex s) long) in
+    let every = all-hex s (both-true (not (eqb (length s) 0) && eqb (length s % 2) 0) (allHex s) long .1) in
     (every (2 * i) (omega arith), every (2 * i + 1) (omega arith))
 
 pub field-digits : (p : Bool) (s : List ℕ) → fitsField p s ≡ true → Digits s

@@ -3,7 +3,6 @@ use Prim.Native.Nat.{ℕ, _+_, _≤_, _<_}
 use mathlib.Core.Path.{_≡_, refl, sym, ap, _∙_}
 use mathlib.Core.Bool.{Bool, true, false, _&&_, false≢true}
 use mathlib.Core.List.{List, _∷_, _++_}
-use native.Mathlib.Numerals.{add-one}
 use native.Mathlib.Omega.{arith}
 use lib.ListN.{length, drop, length-append}
 use Rattle.query_item.specs.declared.ItemWords.{ItemWords}
@@ -11,10 +10,11 @@ use Rattle.query_item.specs.Items.{withItem}
 use lib.Dec.{ltb}
 use Rattle.item_check.specs.Checks.{mostPool, hasStart, hasEnd}
 use Rattle.item_lists.specs.Written.{putAll}
+use Rattle.item_lists.proofs.Written.{Left, left-start, left-one, left-done}
 use Rattle.lent_text.specs.Text.{stored}
 use Rattle.lent_text.proofs.Laws.{stored-append, stored-none}
 use Rattle.sheet_read.specs.declared.row.RowAt.{RowAt}
-use Rattle.sheet_row.proofs.Laws.{and-left, and-right}
+use Rattle.key_order.proofs.Bools.{both-true}
 use Rattle.sheet_read.proofs.Digits.{field-digits}
 use Rattle.sheet_row.specs.Lanes.{Lane, fitsField, firstRow, Sheet, lanes, badAt, withLane, sheetOf, hexBytes}
 use Rattle.sheet_read.specs.Scan.{partOf, RowFound}
@@ -46,21 +46,14 @@ good-lanes : (l : Lane) (s : Sheet) → isGood (withLane l s) ≡ true → (isGo
 good-lanes l (lanes ls) h = (refl, refl)
 good-lanes l (badAt n) h = absurd (false≢true h)
 
-items-turn : (out : List ℕ) (n used : ℕ) (l : Lane) (S : List Lane)
-    → putAll (withItem out n (laneItem used l)) (n + 1) (packedItems (used + (length (l .start) + length (l .end))) S)
-    ≡ putAll out n (packedItems used (l ∷ S))
-unfolding packedItems putAll
-items-turn out n used l S = rw (add-one n)
-
 pub record Filling (text pool₀ out₀ pool out : List ℕ) (at n used : ℕ) : Type 0 where
   pub within : at ≤ length text
   pub rows : n ≤ at
   pub good : isGood (left text n at) ≡ true
   pub fits : used + length (packedKeys (lanesOf (left text n at))) ≤ mostPool
   pub pool-same : length pool ≡ length pool₀
-  pub out-same : length out ≡ length out₀
   pub bytes : stored true pool used (packedKeys (lanesOf (left text n at))) ≡ stored true pool₀ 0 (packedKeys (lanesOf (sheetOf text)))
-  pub items : putAll out n (packedItems used (lanesOf (left text n at))) ≡ putAll out₀ 0 (packedItems 0 (lanesOf (sheetOf text)))
+  pub items : Left (packedItems 0 (lanesOf (sheetOf text))) out₀ 0 out n (packedItems used (lanesOf (left text n at)))
 
 pub filling-start : (text pool out : List ℕ) → Readable text → Filling text pool out pool out 0 0 0
 filling-start text pool out c = at-start
@@ -72,18 +65,17 @@ filling-start text pool out c = at-start
       good = rw (left-all text) (c .good);
       fits = rw (left-all text) (omega (arith, c .fits));
       pool-same = refl;
-      out-same = refl;
       bytes = rw (left-all text);
-      items = rw (left-all text);
+      items = rw (left-all text) (left-start (packedItems 0 (lanesOf (sheetOf text))) out 0);
     }
 
 module _ {text pool₀ out₀ pool out : List ℕ} {at n used : ℕ} (v : Filling text pool₀ out₀ pool out at n used) where
   pub filling-end : length text ≤ at
       → (pool ≡ stored true pool₀ 0 (packedKeys (lanesOf (sheetOf text)))) × (out ≡ putAll out₀ 0 (packedItems 0 (lanesOf (sheetOf text))))
-  unfolding packedKeys packedItems putAll
+  unfolding packedKeys packedItems
   filling-end h =
       let none = left-none text n at h in
-      (rw (none, stored-none true pool used) at (v .bytes), rw none at (v .items))
+      (rw (none, stored-none true pool used) at (v .bytes), left-done (v .items) (rw none) .words)
 
   module _ {r : RowAt} (h : at < length text) (found : RowFound text at (firstRow (drop at text)) r) where
     pub filling-good : r .good ≡ true
@@ -114,14 +106,14 @@ module _ {text pool₀ out₀ pool out : List ℕ} {at n used : ℕ} (v : Fillin
         let starts = fitsField (hasStart (r .code)) (partOf text (r .start)) in
         let ends = fitsField (hasEnd (r .code)) (partOf text (r .end)) in
         let lane = found .lane filling-good in
-        let front = and-left (known && starts) ends lane in
+        let front = both-true (known && starts) ends lane .0 in
         record {
           start = found .start-from;
           start-to = omega (arith, found .end-after, found .end-from, found .end-to, found .next);
           end = found .end-from;
           end-to = omega (arith, found .end-to, found .next);
-          start-digits = field-digits (hasStart (r .code)) (partOf text (r .start)) (and-right known starts front);
-          end-digits = field-digits (hasEnd (r .code)) (partOf text (r .end)) (and-right (known && starts) ends lane);
+          start-digits = field-digits (hasStart (r .code)) (partOf text (r .start)) (both-true known starts front .1);
+          end-digits = field-digits (hasEnd (r .code)) (partOf text (r .end)) (both-true (known && starts) ends lane .1);
           fits = omega (arith, keys, v .fits);
         }
 
@@ -130,10 +122,9 @@ module _ {text pool₀ out₀ pool out : List ℕ} {at n used : ℕ} (v : Fillin
         → pool′ ≡ stored true pool used (rowLane text r .start ++ rowLane text r .end)
         → out′ ≡ withItem out n (laneItem used (rowLane text r))
         → length pool′ ≡ length pool
-        → length out′ ≡ length out
         → Filling text pool₀ out₀ pool′ out′ (r .next) (n + 1) used′
-    unfolding packedKeys packedItems putAll
-    filling-more {pool′} {out′} {used′} eu ep eo lp lo =
+    unfolding packedKeys packedItems
+    filling-more {pool′} {out′} {used′} eu ep eo lp =
         let on = found .on filling-good in
         let l = rowLane text r in
         let S = lanesOf (left text (n + 1) (r .next)) in
@@ -144,7 +135,6 @@ module _ {text pool₀ out₀ pool out : List ℕ} {at n used : ℕ} (v : Fillin
           good = rest .0;
           fits = omega (arith, keys, v .fits, eu);
           pool-same = lp ∙ v .pool-same;
-          out-same = lo ∙ v .out-same;
           bytes = rw (ep, step) (stored-append true pool used (l .start ++ l .end) (packedKeys S)) ∙ rw (rest .1) at (v .bytes);
-          items = rw (eo, eu) (items-turn out n used l S) ∙ rw (rest .1) at (v .items);
+          items = left-one (v .items) (rw (rest .1, eu)) eo;
         }

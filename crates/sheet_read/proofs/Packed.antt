@@ -1,7 +1,7 @@
 -- Packed items over the pool that their keys are packed into: each says its lane, and is plain. Assumes nothing.
 use Prim.Native.Nat.{ℕ, _+_, _≤_}
 use mathlib.Core.Path.{_≡_, refl, sym, ap₂}
-use mathlib.Core.Bool.{Bool, true, false, cond, not, _&&_}
+use mathlib.Core.Bool.{Bool, true, false, cond}
 use mathlib.Core.List.{List, [], _∷_, _++_, map, append-assoc}
 use native.Mathlib.Omega.{arith}
 use lib.ListN.{length, length-append}
@@ -9,8 +9,8 @@ use lib.Seq.{take-append-seam, drop-at}
 use lib.Dec.{ltb}
 use borrow.Author.Tests.{le-ltb, ltb-false}
 use Rattle.query_item.specs.Items.{bytesOf, keyAt}
-use Rattle.item_check.specs.Checks.{hasStart, hasEnd, written, keyOut, mostKey}
-use Rattle.item_check.proofs.Laws.{All, or-false}
+use Rattle.item_check.specs.Checks.{hasStart, hasEnd, keyOut, mostKey}
+use Rattle.item_check.proofs.Laws.{All, both-false, Formed, absent-in, fault-by}
 use Rattle.sheet_row.specs.Lanes.{Lane, laneOf, laneAt}
 use Rattle.sheet_row.proofs.Laws.{Sound, SoundAll, none, more, PlainIn}
 use Rattle.sheet_read.specs.Reading.{packedKeys, keyFor, laneItem, packedItems, isLong}
@@ -46,14 +46,9 @@ items-shown pre (l ∷ ls) rest at (more s ss) e =
 
 -- ---- they are plain
 
--- the words of a key that the item does not have are 0
-absent-zero : (p : Bool) (at n : ℕ) → not p && written (keyFor p at n) ≡ false
-absent-zero true at n = refl
-absent-zero false at n = refl
-
-key-inside : (p : Bool) (pool : List ℕ) (at n : ℕ) → n ≤ mostKey → at + n ≤ length pool → p && keyOut pool (keyFor p at n) ≡ false
+key-inside : (p : Bool) (pool : List ℕ) (at n : ℕ) → n ≤ mostKey → at + n ≤ length pool → keyOut pool (keyFor p at n) ≡ false
 key-inside true pool at n h l = rw (le-ltb mostKey n h, le-ltb (length pool) (at + n) l)
-key-inside false pool at n h l = refl
+key-inside false pool at n h l = absent-in pool
 
 item-plain : (pool : List ℕ) (l : Lane) (at : ℕ) → Sound l → isLong l ≡ false
     → at + (length (l .start) + length (l .end)) ≤ length pool → PlainIn pool (laneItem at l)
@@ -61,10 +56,12 @@ item-plain pool l at s short h =
     let c = l .code in
     let a = length (l .start) in
     let b = length (l .end) in
-    let both = or-false (ltb mostKey a) (ltb mostKey b) .0 short in
+    let both = both-false (ltb mostKey a) (ltb mostKey b) .0 short in
     let start-in = key-inside (hasStart c) pool at a (ltb-false mostKey a (both .0)) (omega arith) in
     let end-in = key-inside (hasEnd c) pool (at + a) b (ltb-false mostKey b (both .1)) (omega arith) in
-    (rw (le-ltb 9 c (omega (arith, s .known)), absent-zero (hasStart c) at a, absent-zero (hasEnd c) (at + a) b, start-in, end-in), refl)
+    let formed : Formed (laneItem at l) =
+    record { known = omega (arith, s .known); known-wrapper = omega arith; no-start = λ e. rw e; no-end = λ e. rw e } in
+    (fault-by pool (laneItem at l) formed start-in end-in, refl)
 
 -- where the keys are short and fit the pool
 pub packed-plain : (pool : List ℕ) (ls : List Lane) (at : ℕ) → SoundAll ls → All (λ l. isLong l ≡ false) ls

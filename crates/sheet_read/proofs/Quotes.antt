@@ -48,7 +48,7 @@ use Rattle.item_name.specs.Names.{
   codeOf,
 }
 use Rattle.sheet_row.specs.Lanes.{isHex, allHex, isKey, fitsField, hexBytes, laneOf, isLane, row, badRow, closed, rowBy, firstRow}
-use Rattle.sheet_row.proofs.Laws.{and-left, and-right}
+use Rattle.key_order.proofs.Bools.{both-true}
 use Rattle.sheet_read.specs.Scan.{
   notQuote,
   shortQuoted,
@@ -272,8 +272,8 @@ pub row-found : (text : List ℕ) (at : ℕ) {n a b : FieldAt} {e : EndAt} {c : 
     → RowFound text at (firstRow (drop at text)) (asked text (record { good = e .good; code = c; start = a; end = b; next = e .next }))
 row-found text at {n} {a} {b} {e} {c} name fn fa fb fe en ec = record {
   rows = rowed ∙ sym short;
-  on = λ q. on (and-right (e .good) (isLane c (partOf text a) (partOf text b)) q);
-  lane = and-right (e .good) (isLane c (partOf text a) (partOf text b));
+  on = λ q. on (both-true (e .good) (isLane c (partOf text a) (partOf text b)) q .1);
+  lane = λ q. both-true (e .good) (isLane c (partOf text a) (partOf text b)) q .1;
   start-after = omega arith;
   start-from = fa .from;
   end-after = omega arith;
@@ -288,8 +288,8 @@ row-found text at {n} {a} {b} {e} {c} name fn fa fb fe en ec = record {
       | no l ↦
           let z : n .to - n .from ≡ 0 = omega arith in
           let w : c ≡ 10 = ec ∙ ap codeOf (en ∙ rw z) ∙ no-name in
-          let known = and-left (ltb c 10 && fitsField (hasStart c) (partOf text a)) (fitsField (hasEnd c) (partOf text b)) q in
-          absurd (omega (arith, ltb-true c 10 (and-left (ltb c 10) (fitsField (hasStart c) (partOf text a)) known)))
+          let known = both-true (ltb c 10 && fitsField (hasStart c) (partOf text a)) (fitsField (hasEnd c) (partOf text b)) q .0 in
+          absurd (omega (arith, ltb-true c 10 (both-true (ltb c 10) (fitsField (hasStart c) (partOf text a)) known .0)))
     ]
 
     by : (h : Bool) (s : List ℕ)

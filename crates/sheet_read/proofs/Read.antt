@@ -7,7 +7,8 @@ use mathlib.Core.List.{List, [], _++_, map}
 use native.Mathlib.Omega.{arith}
 use lib.ListN.{length, drop, length-append, length-drop}
 use Rattle.query_item.specs.Items.{itemsFrom, flatAll, shown}
-use Rattle.item_check.specs.Checks.{Answer, answered, refused, accepted}
+use Rattle.item_check.specs.declared.Refusal.{Refusal}
+use Rattle.item_check.specs.Checks.{Answer, answered, refusedAs, accepted}
 use Rattle.item_check.proofs.Laws.{All, answers, words-answered, words-refused}
 use Rattle.item_lists.specs.Written.{laidOver}
 use Rattle.item_lists.proofs.Read.{items-read}
@@ -24,7 +25,7 @@ use Rattle.sheet_read.proofs.Answers.{Reads, reads, length-packed}
 -- ---- a call that refuses
 
 -- 02 §1.9, 01 demand.1: the pool and the list are as they were
-pub read-refused : (text pool out : List ℕ) {n s i : ℕ} → readAnswer text pool out ≡ refused n s i
+pub read-refused : (text pool out : List ℕ) {r : Refusal} → readAnswer text pool out ≡ refusedAs r
     → (readPool text pool out ≡ pool) × (readList text pool out ≡ out)
 read-refused text pool out e = (
   words-refused e pool (laid pool (packedKeys (lanesIn text))),

@@ -1,7 +1,7 @@
 -- A sheet whose keys are short and whose rows are few is read exactly where there is room, as is the sheet of plain items. Assumes nothing.
 use Prim.Native.Nat.{ℕ, _/_, _≤_}
 use mathlib.Core.Path.{_≡_, refl}
-use mathlib.Core.Bool.{Bool, true, false, cond, _||_, _&&_}
+use mathlib.Core.Bool.{Bool, true, false, cond, _||_}
 use mathlib.Core.List.{List, [], _∷_, map}
 use mathlib.Core.Logic.{_↔_}
 use native.Mathlib.Omega.{arith}
@@ -12,7 +12,7 @@ use Rattle.query_item.specs.declared.KeyAt.{KeyAt}
 use Rattle.query_item.specs.declared.ItemWords.{ItemWords}
 use Rattle.query_item.specs.Items.{itemSize, bytesOf}
 use Rattle.item_check.specs.Checks.{answered, refused, accepted, andThen, hasStart, hasEnd, keyOut, mostItems, mostPool, mostKey, poolVerdict}
-use Rattle.item_check.proofs.Laws.{All, or-false, fault-parts, answers}
+use Rattle.item_check.proofs.Laws.{All, both-false, keys-in, answers}
 use Rattle.item_lists.specs.Written.{passes}
 use Rattle.sheet_row.specs.Lanes.{Lane, laneAt, lanes, sheetOf}
 use Rattle.sheet_row.proofs.Laws.{PlainIn}
@@ -49,17 +49,17 @@ module _ (text : List ℕ) (ls : List Lane) (is : sheetOf text ≡ lanes ls) (sh
 
 -- ---- plain items
 
-key-short : (p : Bool) (pool : List ℕ) (k : KeyAt) → p && keyOut pool k ≡ false → ltb mostKey (length (cond p (bytesOf pool k) [])) ≡ false
+key-short : (p : Bool) (pool : List ℕ) (k : KeyAt) → keyOut pool k ≡ false → ltb mostKey (length (cond p (bytesOf pool k) [])) ≡ false
 key-short true pool k h =
-    let short = ltb-false mostKey (k .length) (or-false (ltb mostKey (k .length)) _ .0 h .0) in
+    let short = ltb-false mostKey (k .length) (both-false (ltb mostKey (k .length)) _ .0 h .0) in
     le-ltb mostKey (length (bytesOf pool k)) (rw (length-take (k .length) (drop (k .offset) pool)) (omega arith))
 key-short false pool k h = refl
 
 lane-short : (pool : List ℕ) (it : ItemWords) → PlainIn pool it → isLong (laneAt pool it) ≡ false
 lane-short pool it p =
     let c = it .code in
-    let inside = or-false (hasStart c && keyOut pool (it .start)) (hasEnd c && keyOut pool (it .end)) .0 (fault-parts pool it (p .0) .1) in
-    or-false _ _ .1 (key-short (hasStart c) pool (it .start) (inside .0), key-short (hasEnd c) pool (it .end) (inside .1))
+    let inside = keys-in pool it (p .0) in
+    both-false _ _ .1 (key-short (hasStart c) pool (it .start) (inside .0), key-short (hasEnd c) pool (it .end) (inside .1))
 
 -- their lanes have short keys
 pub lanes-short : (pool : List ℕ) (its : List ItemWords) → All (PlainIn pool) its → All (λ l. isLong l ≡ false) (map (laneAt pool) its)

@@ -6,12 +6,11 @@
 ghost use mathlib.Core.Path.{_≡_};
 ghost use mathlib.Core.Bool.{true, false, cond};
 ghost use mathlib.Core.List.{_++_};
-ghost use Prim.Native.Nat.{_+_, _*_, _-_, _/_, _≤_, _<_};
+ghost use Prim.Native.Nat.{_+_, _*_, _-_, _/_, _<_};
 ghost use lib.ListN.{length};
 ghost use Rattle.item_check.specs.Checks.{verdictOf};
 ghost use Rattle.lent_text.specs.Text.{stored};
 ghost use Rattle.sheet_row.specs.Lanes.{isHex, hexValue, hexBytes, sheetOf};
-ghost use Rattle.sheet_read.specs.Scan.{partOf};
 ghost use Rattle.query_item.specs.Items.{withItem};
 ghost use Rattle.item_lists.specs.Written.{putAll};
 ghost use Rattle.sheet_read.specs.Reading.{packedKeys, keyFor, packedItem, laneItem, packedItems, lanesIn, sheetAnswerOf, readAnswer, readPool, readList};
@@ -22,12 +21,14 @@ use crate::row::row_at;
 use crate::row::row_places;
 use item_check::Checked;
 use item_check::MOST_ITEMS;
+use item_check::MOST_KEY;
 use item_check::MOST_POOL;
 use item_check::Refusal;
 use item_check::has_end;
 use item_check::has_start;
 use item_check::refuse;
 use item_lists::passes_room;
+use item_words::make_item;
 use item_words::write_item;
 use lent_text::put_past;
 use query_item::ItemWords;
@@ -126,7 +127,7 @@ fn add_row(m: Measured, row: RowAt) -> Measured
         good: true,
         rows: m.rows + 1,
         bytes: m.bytes + a + b,
-        long: m.long | (255 < a) | (255 < b),
+        long: m.long | ((MOST_KEY as usize) < a) | ((MOST_KEY as usize) < b),
         first: either(m.long, m.first, m.rows),
     }
 }
@@ -207,12 +208,7 @@ fn packed_item(code: u32, at: u32, a: u32, b: u32) -> ItemWords
 {
     let start = key_for(has_start(code), at, a);
     let end = key_for(has_end(code), at + a, b);
-    ItemWords {
-        code,
-        wrapper: 0,
-        start,
-        end,
-    }
+    make_item(code, 0, start, end)
 }
 
 fn key_for(present: bool, at: u32, n: u32) -> KeyAt

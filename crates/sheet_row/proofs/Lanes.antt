@@ -12,7 +12,7 @@ use lib.Dec.{ltb, leb}
 use borrow.Author.Tests.{ltb-true, leb-true, eqb-true}
 use Rattle.query_item.specs.declared.KeyAt.{KeyAt}
 use Rattle.query_item.specs.declared.ItemWords.{ItemWords}
-use Rattle.query_item.specs.Items.{bytesOf, Shown, shown}
+use Rattle.query_item.specs.Items.{bytesOf, absent, Shown, shown}
 use Rattle.item_check.specs.Checks.{hasStart, hasEnd, itemFault}
 use Rattle.item_check.proofs.Laws.{All, fault-parts, Formed, formed-parts}
 use Rattle.sheet_row.specs.Fields.{Ended, ended, unended, field, nextField, endOf, content}
@@ -42,7 +42,7 @@ use Rattle.sheet_row.specs.Lanes.{
   sheetOf,
   sheetText,
 }
-use Rattle.sheet_row.proofs.Written.{and-left, and-right}
+use Rattle.key_order.proofs.Bools.{both-true}
 use Rattle.sheet_row.proofs.Written.{Bytes, Sound, SoundAll, none, more, sheet-text}
 
 -- ---- two digits make a byte
@@ -52,9 +52,9 @@ unfolding hexValue
 value-small c = go (isDecimal c) (isUpper c) (isLower c) refl refl refl
   where
     go : (d u l : Bool) → isDecimal c ≡ d → isUpper c ≡ u → isLower c ≡ l → cond d (c - 48) (cond u (c - 55) (cond l (c - 87) 0)) < 16
-    go true u l d e f = omega (arith, leb-true c 57 (and-right (leb 48 c) (leb c 57) d))
-    go false true l d e f = omega (arith, leb-true c 70 (and-right (leb 65 c) (leb c 70) e))
-    go false false true d e f = omega (arith, leb-true c 102 (and-right (leb 97 c) (leb c 102) f))
+    go true u l d e f = omega (arith, leb-true c 57 (both-true (leb 48 c) (leb c 57) d .1))
+    go false true l d e f = omega (arith, leb-true c 70 (both-true (leb 65 c) (leb c 70) e .1))
+    go false false true d e f = omega (arith, leb-true c 102 (both-true (leb 97 c) (leb c 102) f .1))
     go false false false d e f = omega arith
 
 bytes-hex : (s : List ℕ) → Bytes (hexBytes s)
@@ -74,13 +74,13 @@ fits-none false (b ∷ s) h e = absurd (omega (arith, eqb-true (length (b ∷ s)
 
 lane-sound : (c : ℕ) (a b : List ℕ) → isLane c a b ≡ true → Sound (laneOf c (hexBytes a) (hexBytes b))
 lane-sound c a b h =
-    let front = and-left (ltb c 10 && fitsField (hasStart c) a) (fitsField (hasEnd c) b) h in
+    let front = both-true (ltb c 10 && fitsField (hasStart c) a) (fitsField (hasEnd c) b) h .0 in
     record {
-      known = ltb-true c 10 (and-left (ltb c 10) (fitsField (hasStart c) a) front);
+      known = ltb-true c 10 (both-true (ltb c 10) (fitsField (hasStart c) a) front .0);
       start = bytes-hex a;
       end = bytes-hex b;
-      no-start = fits-none (hasStart c) a (and-right (ltb c 10) (fitsField (hasStart c) a) front);
-      no-end = fits-none (hasEnd c) b (and-right (ltb c 10 && fitsField (hasStart c) a) (fitsField (hasEnd c) b) h);
+      no-start = fits-none (hasStart c) a (both-true (ltb c 10) (fitsField (hasStart c) a) front .1);
+      no-end = fits-none (hasEnd c) b (both-true (ltb c 10 && fitsField (hasStart c) a) (fitsField (hasEnd c) b) h .1);
     }
 
 abbrev SoundRow : Row → Type 0
@@ -159,7 +159,7 @@ module _ (pool : List ℕ) where
   ]
 
   -- the words of a key that the item does not have name no bytes
-  said-shown : (p : Bool) (k : KeyAt) → (p ≡ false → k .length ≡ 0) → bytesOf pool k ≡ cond p (bytesOf pool k) []
+  said-shown : (p : Bool) (k : KeyAt) → (p ≡ false → k ≡ absent) → bytesOf pool k ≡ cond p (bytesOf pool k) []
   said-shown true k h = refl
   said-shown false k h = rw (h refl)
 

@@ -8,5 +8,3 @@ pub use Rattle.sheet_row.proofs.Written.{rows-step, rows-none}
 pub use Rattle.sheet_row.proofs.Lanes.{lanes-sound, plain-lanes}
 -- the lanes of plain items are sound, and such items show what their lanes say
 pub use Rattle.sheet_row.proofs.Lanes.{PlainIn, items-sound, laneShown, shown-lanes}
--- both of two tests passed
-pub use Rattle.sheet_row.proofs.Written.{and-left, and-right}

@@ -1,7 +1,7 @@
 -- What is written is read: keys, fields, rows, sheets. Assumes nothing.
 use Prim.Native.Nat.{ℕ, zero, suc, _+_, _*_, _/_, _%_, _≤_, _<_}
 use mathlib.Core.Path.{_≡_, refl, sym, ap}
-use mathlib.Core.Bool.{Bool, true, false, _&&_, or-true, false≢true}
+use mathlib.Core.Bool.{Bool, true, false, _&&_, or-true}
 use mathlib.Core.List.{List, [], _∷_, _++_, append-assoc}
 use native.Mathlib.Decide.{decLt}
 use native.Mathlib.Omega.{arith}
@@ -10,6 +10,7 @@ use lib.Dec.{eqb, ltb, leb}
 use lib.Seq.{take-append-seam, drop-append-seam}
 use borrow.Author.Tests.{ltb-true, leb-true, lt-ltb, le-ltb, le-leb, lt-leb, ne-eqb}
 use Rattle.key_order.specs.Order.{compareNumbers, compareKeys}
+use Rattle.key_order.proofs.Bools.{both-true}
 use Rattle.item_check.specs.Checks.{hasStart, hasEnd}
 use Rattle.key_text.specs.Text.{hexDigit, hexText, keyText}
 use Rattle.key_text.proofs.Laws.{length-hex}
@@ -48,16 +49,6 @@ use Rattle.sheet_row.specs.Lanes.{
   rowText,
   sheetText,
 }
-
--- ---- both of two
-
-pub and-left : (a b : Bool) → a && b ≡ true → a ≡ true
-and-left true b h = refl
-and-left false b h = h
-
-pub and-right : (a b : Bool) → a && b ≡ true → b ≡ true
-and-right true b h = h
-and-right false b h = absurd (false≢true h)
 
 -- ---- digits and keys
 
@@ -137,7 +128,7 @@ leading-large : (f s : List ℕ) (c : ℕ) → large f ≡ true → isText c ≡
 unfolding leading large
 leading-large [] s c h e = rw e
 leading-large (b ∷ f) s c h e =
-    rw (text-large b (leb-true 45 b (and-left (leb 45 b) (large f) h))) (ap suc (leading-large f s c (and-right (leb 45 b) (large f) h) e))
+    rw (text-large b (leb-true 45 b (both-true (leb 45 b) (large f) h .0))) (ap suc (leading-large f s c (both-true (leb 45 b) (large f) h .1) e))
 
 unquoted-large : (f s : List ℕ) (c : ℕ) → large f ≡ true → isText c ≡ false → unquoted (f ++ c ∷ s) ≡ split f (c ∷ s)
 unfolding unquoted
@@ -147,7 +138,7 @@ field-large : (f s : List ℕ) (c : ℕ) → large f ≡ true → isText c ≡ f
 unfolding field large
 field-large [] s c h e q = rw q (unquoted-large [] s c h e)
 field-large (b ∷ f) s c h e q =
-    let l = leb-true 45 b (and-left (leb 45 b) (large f) h) in
+    let l = leb-true 45 b (both-true (leb 45 b) (large f) h .0) in
     rw (ne-eqb b 34 (λ w. omega arith)) (unquoted-large (b ∷ f) s c h e)
 
 digit-large : (d : ℕ) → 45 ≤ hexDigit d

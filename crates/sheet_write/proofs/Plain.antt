@@ -15,34 +15,32 @@ use Rattle.item_check.specs.Checks.{
   accepted,
   mostItems,
   mostPool,
-  malformed,
-  outside,
+  wrapped,
+  itemFault,
   uprightFault,
   poolVerdict,
   shapeVerdict,
   firstBad,
   itemsOf,
-  listVerdict,
-  checkVerdict,
 }
-use Rattle.item_check.proofs.Laws.{All, AllSound, InOrder, accepts, items-pass, shape-passes, pool-passes, accepted-list, fault-parts, sound-parts}
+use Rattle.item_check.proofs.Laws.{All, AllSound, InOrder, accepts, items-pass, shape-passes, pool-passes, first-none, sound-parts}
+use Rattle.item_lists.specs.Lists.{Accepted}
+use Rattle.item_lists.proofs.Accepted.{accepted-pool, list-of, accepted-side}
 use Rattle.sheet_row.proofs.Laws.{PlainIn}
 use Rattle.sheet_write.specs.Writing.{plainFault, listedVerdict, plainVerdict}
 
 module _ (pool : List ℕ) where
   -- nothing of 1, 2 and 5 is wrong with an item exactly where it is plain
   pub plain-parts : (it : ItemWords) → plainFault pool it ≡ 0 ↔ PlainIn pool it
-  plain-parts it = (
-    λ h. go (malformed it) (outside pool it) (eqb (it .wrapper) 0) refl h,
-    λ p. let parts = fault-parts pool it (p .0) in rw (parts .0, parts .1, p .1),
-  )
+  plain-parts it =
+      let both = first-none (itemFault pool it) (cond (wrapped it) 5 0) in (
+        λ h. let b = both .0 h in (b .0, go (eqb (it .wrapper) 0) refl (b .1)),
+        λ p. both .1 (p .0, rw (p .1)),
+      )
     where
-      go : (m o w : Bool) → eqb (it .wrapper) 0 ≡ w → _≡_ {A = ℕ} (cond m 1 (cond o 2 (cond (not w) 5 0))) 0
-          → (_≡_ {A = ℕ} (cond m 1 (cond o 2 0)) 0) × (it .wrapper ≡ 0)
-      go true o w e z = absurd (omega arith)
-      go false true w e z = absurd (omega arith)
-      go false false false e z = absurd (omega arith)
-      go false false true e z = (refl, eqb-true (it .wrapper) 0 e)
+      go : (w : Bool) → eqb (it .wrapper) 0 ≡ w → _≡_ {A = ℕ} (cond (not w) 5 0) 0 → it .wrapper ≡ 0
+      go true e z = eqb-true (it .wrapper) 0 e
+      go false e z = absurd (omega arith)
 
   each-plain : (its : List ItemWords) → All (λ it. plainFault pool it ≡ 0) its ↔ All (PlainIn pool) its
   each-plain [] = (λ a. tt, λ a. tt)
@@ -80,34 +78,29 @@ each-upright : (pool : List ℕ) (its : List ItemWords) → All (PlainIn pool) i
     → All (λ it. uprightFault pool it ≡ 0) its ↔ All (λ it. upright pool (rangeOf it) ≡ true) its
 each-upright pool [] p = (λ a. tt, λ a. tt)
 each-upright pool (it ∷ its) p =
-    let parts = fault-parts pool it (p .0 .0) in
     let rest = each-upright pool its (p .1) in
-    (λ a. (sound-parts pool it (a .0) .2, rest .0 (a .1)), λ a. (rw (parts .0, parts .1, a .0), rest .1 (a .1)))
+    (λ a. (sound-parts pool it (a .0) .2, rest .0 (a .1)), λ a. (rw (p .0 .0, a .0), rest .1 (a .1)))
 
 -- a list that can be written is accepted by the algebra exactly where its items are upright, and each starts above the end of the one before
-pub plain-checked : (pool ws : List ℕ) (side : ℕ) → PlainList pool ws
-    → checkVerdict pool ws side ≡ accepted ↔ (All (λ it. upright pool (rangeOf it) ≡ true) (itemsOf ws) × InOrder pool (itemsOf ws))
-plain-checked pool ws side p =
-    let both = accepts (poolVerdict pool) (listVerdict pool ws side) in
-    let list = accepted-list pool side ws in
+pub plain-checked : (pool ws : List ℕ) → PlainList pool ws
+    → Accepted pool ws ↔ (All (λ it. upright pool (rangeOf it) ≡ true) (itemsOf ws) × InOrder pool (itemsOf ws))
+plain-checked pool ws p =
     let each = each-upright pool (itemsOf ws) (p .plain) in (
-      λ e. let a = list .0 (both .0 e .1) in (each .0 (a .sound), a .in-order),
+      λ e. let a = list-of pool ws e in (each .0 (a .sound), a .in-order),
       λ u.
-          both .1 (
+          accepted-side pool ws 0 .1 (
             pool-passes pool .1 (p .small),
-            list .1 (record { whole = p .whole; few = p .few; sound = each .1 (u .0); in-order = u .1 }),
+            record { whole = p .whole; few = p .few; sound = each .1 (u .0); in-order = u .1 },
           ),
     )
 
 each-written : (pool : List ℕ) (its : List ItemWords) → AllSound pool its → All (λ it. it .wrapper ≡ 0) its → All (PlainIn pool) its
 each-written pool [] s w = tt
 each-written pool (it ∷ its) s w =
-    let parts = sound-parts pool it (s .0) in
-    ((rw (parts .0, parts .1), w .0), each-written pool its (s .1) (w .1))
+    ((first-none (itemFault pool it) _ .0 (s .0) .0, w .0), each-written pool its (s .1) (w .1))
 
 -- what the algebra accepts can be written, if no item has a wrapper: each of the three lists of two accepted ones, if it has at most 2,048 items
-pub checked-plain : (pool ws : List ℕ) (side : ℕ) → checkVerdict pool ws side ≡ accepted → All (λ it. it .wrapper ≡ 0) (itemsOf ws) → PlainList pool ws
-checked-plain pool ws side e w =
-    let both = accepts (poolVerdict pool) (listVerdict pool ws side) .0 e in
-    let a = accepted-list pool side ws .0 (both .1) in
-    record { small = pool-passes pool .0 (both .0); whole = a .whole; few = a .few; plain = each-written pool (itemsOf ws) (a .sound) w }
+pub checked-plain : (pool ws : List ℕ) → Accepted pool ws → All (λ it. it .wrapper ≡ 0) (itemsOf ws) → PlainList pool ws
+checked-plain pool ws e w =
+    let a = list-of pool ws e in
+    record { small = pool-passes pool .0 (accepted-pool pool ws e); whole = a .whole; few = a .few; plain = each-written pool (itemsOf ws) (a .sound) w }

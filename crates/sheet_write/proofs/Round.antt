@@ -9,10 +9,12 @@ use native.Mathlib.Omega.{arith}
 use lib.ListN.{length, take, drop, length-map}
 use lib.Seq.{take-at, length-take-le}
 use lib.Dec.{ltb}
-use Rattle.query_item.specs.Items.{itemSize, itemsFrom, shown}
+use Rattle.query_item.specs.Items.{itemSize, itemsFrom, SameShown}
 use Rattle.query_item.specs.Boundaries.{rangeOf, upright}
-use Rattle.item_check.specs.Checks.{Answer, answered, refused, accepted, andThen, mostItems, mostPool, poolVerdict, itemsOf, checkVerdict}
+use Rattle.item_check.specs.declared.Refusal.{Refusal}
+use Rattle.item_check.specs.Checks.{Answer, answered, refused, refusedAs, accepted, andThen, mostItems, mostPool, poolVerdict, itemsOf}
 use Rattle.item_check.proofs.Laws.{All, InOrder, answers, words-answered, words-refused}
+use Rattle.item_lists.specs.Lists.{Accepted}
 use Rattle.item_lists.specs.Written.{passes}
 use Rattle.item_lists.proofs.Words.{items-taken, length-items}
 use Rattle.lent_text.specs.Text.{laid}
@@ -26,7 +28,7 @@ use Rattle.sheet_write.specs.Writing.{plainVerdict, textRoom, roomBytes,
 use Rattle.sheet_write.proofs.Plain.{PlainList, plain-list, plain-checked}
 
 -- 02 §1.9, 01 demand.1: where writing refuses, the bytes are as they were
-pub write-refused : (pool ws out : List ℕ) {n s i : ℕ} → writeAnswer pool ws out ≡ refused n s i → writeBytes pool ws out ≡ out
+pub write-refused : (pool ws out : List ℕ) {r : Refusal} → writeAnswer pool ws out ≡ refusedAs r → writeBytes pool ws out ≡ out
 write-refused pool ws out e = words-refused e out (laid out (listText pool ws))
 
 -- ---- what was written is read
@@ -89,9 +91,8 @@ module _ (pool ws out : List ℕ) (n : ℕ) (h : writeAnswer pool ws out ≡ ans
       -- 02 §1.10: the items are as many, and the same by bytes: code, wrapper, start bytes, end bytes
       pub written-read : (c : SheetCounts) → readAnswer (take n (writeBytes pool ws out)) pool₂ out₂ ≡ answered c
           → (c .items ≡ length (itemsOf ws))
-          × (map (shown (readPool (take n (writeBytes pool ws out)) pool₂ out₂))
-          (itemsFrom (readList (take n (writeBytes pool ws out)) pool₂ out₂) 0 (c .items))
-          ≡ map (shown pool) (itemsOf ws))
+          × SameShown (readPool (take n (writeBytes pool ws out)) pool₂ out₂) pool
+          (itemsFrom (readList (take n (writeBytes pool ws out)) pool₂ out₂) 0 (c .items)) (itemsOf ws)
       written-read c e =
           let text = take n (writeBytes pool ws out) in
           let same : lanesIn text ≡ said = ap lanesOf sheet in (
@@ -127,10 +128,9 @@ module _ (text pool out : List ℕ) (c : SheetCounts) (h : readAnswer text pool 
       })
 
   -- and by the algebra exactly where it is upright and in order
-  pub read-checked : (side : ℕ)
-      → checkVerdict (readPool text pool out) (take (itemSize * c .items) (readList text pool out)) side ≡ accepted
+  pub read-checked : Accepted (readPool text pool out) (take (itemSize * c .items) (readList text pool out))
       ↔ (All (λ it. upright pool′ (rangeOf it) ≡ true) (itemsOf ws′) × InOrder pool′ (itemsOf ws′))
-  read-checked side = plain-checked pool′ ws′ side (plain-list pool′ ws′ .0 read-accepted)
+  read-checked = plain-checked pool′ ws′ (plain-list pool′ ws′ .0 read-accepted)
 
   -- its text is the plain form of the sheet
   pub read-text : listText (readPool text pool out) (take (itemSize * c .items) (readList text pool out)) ≡ sheetText (lanesIn text)

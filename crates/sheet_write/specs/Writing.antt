@@ -5,7 +5,7 @@ use mathlib.Core.List.{List, map}
 use lib.ListN.{length}
 use lib.Dec.{ltb}
 use Rattle.query_item.specs.declared.ItemWords.{ItemWords}
-use Rattle.item_check.specs.Checks.{Answer, answered, refused, Verdict, andThen, wordsBy, refusedAs, malformed, outside, wrapped, poolVerdict, shapeVerdict, firstBad, itemsOf}
+use Rattle.item_check.specs.Checks.{Answer, answered, refused, Verdict, andThen, wordsBy, refusedAs, wrapped, firstFault, itemFault, poolVerdict, shapeVerdict, firstBad, itemsOf}
 use Rattle.lent_text.specs.Text.{laid}
 use Rattle.sheet_row.specs.Lanes.{laneAt, sheetText}
 use Rattle.sheet_write.specs.declared.SheetWritten.{SheetWritten}
@@ -19,10 +19,7 @@ itemsText pool its = sheetText (map (laneAt pool) its)
 
 -- 02 §1.11, §1.12, 01 refusal.6: of an item 1, 2, then 5 for a wrapped one; 0 where nothing is wrong. Reading B6: an item need not be upright
 abbrev pub plainFault : List ℕ → ItemWords → ℕ
-plainFault pool it =
-    cond (malformed it) 1
-    (cond (outside pool it) 2
-    (cond (wrapped it) 5 0))
+plainFault pool it = firstFault (itemFault pool it) (cond (wrapped it) 5 0)
 
 -- 02 §1.11, reading B6: the list's shape, then item by item, side 0; a list need not be strict
 abbrev pub listedVerdict : List ℕ → List ℕ → Verdict

@@ -20,6 +20,7 @@ use item_check::check_shape;
 use item_check::has_end;
 use item_check::has_start;
 use item_check::item_fault;
+use item_check::refusal_of;
 use item_check::refuse;
 use item_name::put_name;
 use item_words::ITEM_SIZE;
@@ -57,11 +58,7 @@ fn put_sheet(out: &mut [u8], pool: &[u8], words: &[u32]) -> SheetWritten
     let count = words.len() / ITEM_SIZE;
     let n = put_rows(out, pool, words, count, false);
     if out.len() < n {
-        return SheetWritten::Refused(Refusal {
-            number: 6,
-            side: 0,
-            index: 0,
-        });
+        return SheetWritten::Refused(refusal_of(6, 0, 0));
     }
     SheetWritten::Bytes(put_rows(out, pool, words, count, true))
 }
@@ -69,7 +66,9 @@ fn put_sheet(out: &mut [u8], pool: &[u8], words: &[u32]) -> SheetWritten
 // The row of an item, from a place on.
 fn put_row(out: &mut [u8], at: usize, pool: &[u8], item: ItemWords, write: bool) -> usize
     requires { ⌜ at < 1000000000000000 ⌝ }
-    ensures { λ r. ⌜ (r ≡ length (rowText (laneAt (now (pool .entry)) item))) × (now (out .exit) ≡ stored write (now (out .entry)) at (rowText (laneAt (now (pool .entry)) item))) × (r ≤ 17179869300) ⌝ }
+    ensures { λ r. ⌜ (r ≡ length (rowText (laneAt (now (pool .entry)) item)))
+        × (now (out .exit) ≡ stored write (now (out .entry)) at (rowText (laneAt (now (pool .entry)) item)))
+        × (r ≤ 17179869300) ⌝ }
 {
     let a = put_name(out, at, item.code, write);
     let b = put_field(out, at + a, pool, has_start(item.code), item.start, write);
@@ -87,7 +86,9 @@ fn put_field(
     key: KeyAt,
     write: bool,
 ) -> usize
-    ensures { λ r. ⌜ (r ≡ length (comma ∷ keyField present (bytesOf (now (pool .entry)) key))) × (now (out .exit) ≡ stored write (now (out .entry)) at (comma ∷ keyField present (bytesOf (now (pool .entry)) key))) × (r ≤ 8589934592) ⌝ }
+    ensures { λ r. ⌜ (r ≡ length (comma ∷ keyField present (bytesOf (now (pool .entry)) key)))
+        × (now (out .exit) ≡ stored write (now (out .entry)) at (comma ∷ keyField present (bytesOf (now (pool .entry)) key)))
+        × (r ≤ 8589934592) ⌝ }
 {
     if present {
         return put_key_behind(out, at, b',', pool, key, write);
@@ -99,7 +100,8 @@ fn put_field(
 // The rows of the first count items, from the front on, and how many bytes that is.
 fn put_rows(out: &mut [u8], pool: &[u8], words: &[u32], count: usize, write: bool) -> usize
     requires { ⌜ count ≤ mostItems ⌝ }
-    ensures { λ r. ⌜ (r ≡ length (itemsText (now (pool .entry)) (itemsFrom (now (words .entry)) 0 count))) × (now (out .exit) ≡ stored write (now (out .entry)) 0 (itemsText (now (pool .entry)) (itemsFrom (now (words .entry)) 0 count))) ⌝ }
+    ensures { λ r. ⌜ (r ≡ length (itemsText (now (pool .entry)) (itemsFrom (now (words .entry)) 0 count)))
+        × (now (out .exit) ≡ stored write (now (out .entry)) 0 (itemsText (now (pool .entry)) (itemsFrom (now (words .entry)) 0 count))) ⌝ }
 {
     let mut at: usize = 0;
     let mut i: usize = 0;

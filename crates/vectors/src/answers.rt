@@ -3,10 +3,11 @@ use crate::Cursor;
 use crate::Met;
 use crate::on;
 use crate::part;
-use boundary::is_equal;
 use item_check::Refusal;
 use item_words::item_at;
 use item_words::words_of;
+use key_order::is_equal;
+use key_order::wide;
 use query_item::ItemWords;
 use query_item::KeyAt;
 use query_item::MaybeItem;
@@ -138,8 +139,4 @@ pub fn holds_items(a: &[u8], h: Held, pool: &[u8], words: &[u32], count: usize) 
         i += 1;
     }
     so_far
-}
-
-fn wide(x: u8) -> u64 {
-    x as u64
 }

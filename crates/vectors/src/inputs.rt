@@ -3,7 +3,9 @@ use crate::Cursor;
 use crate::byte;
 use crate::on;
 use crate::short;
+use item_words::make_item;
 use item_words::write_item;
+use key_order::wide_u32;
 use query_item::ItemWords;
 use query_item::KeyAt;
 
@@ -13,12 +15,12 @@ pub const ITEM_BYTES: usize = 10;
 pub fn item(s: &[u8], c: Cursor) -> ItemWords {
     let start = key_at(s, on(s, c, 2));
     let end = key_at(s, on(s, c, 6));
-    ItemWords {
-        code: wide(byte(s, c)),
-        wrapper: wide(byte(s, on(s, c, 1))),
+    make_item(
+        wide_u32(byte(s, c)),
+        wide_u32(byte(s, on(s, c, 1))),
         start,
         end,
-    }
+    )
 }
 
 fn key_at(s: &[u8], c: Cursor) -> KeyAt {
@@ -37,8 +39,4 @@ pub fn fill(s: &[u8], c: Cursor, count: usize, words: &mut [u32]) {
         from = on(s, from, ITEM_BYTES);
         i += 1;
     }
-}
-
-fn wide(x: u8) -> u32 {
-    x as u32
 }

@@ -1,8 +1,8 @@
 // Words lent for writing, which are marked, so that those which a call keeps show.
 ghost use mathlib.Core.Path.{_≡_};
 ghost use lib.ListN.{length};
-use crate::least;
 use item_words::ITEM_SIZE;
+use key_order::least;
 
 const MARK: u32 = 4278190080;
 

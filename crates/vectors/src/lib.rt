@@ -15,9 +15,11 @@ pub mod inputs;
 pub mod lent;
 
 pub use counts::report;
-ghost use Prim.Native.Nat.{_≤_, _<_};
+ghost use Prim.Native.Nat.{_<_};
 ghost use mathlib.Core.Path.{_≡_};
 ghost use lib.ListN.{length};
+use key_order::least;
+use key_order::wide_u32;
 
 // A place in a slice that goes beside it.
 pub struct Cursor {
@@ -117,7 +119,7 @@ pub fn byte(s: &[u8], c: Cursor) -> u8 {
 pub fn short(s: &[u8], c: Cursor) -> u32
     ensures { λ r. ⌜ r < 65536 ⌝ }
 {
-    256 * wide(byte(s, c)) + wide(byte(s, on(s, c, 1)))
+    256 * wide_u32(byte(s, c)) + wide_u32(byte(s, on(s, c, 1)))
 }
 
 // The number of 4 bytes.
@@ -153,16 +155,4 @@ pub fn key(s: &[u8], c: Cursor) -> &[u8] {
 
 pub fn after_key(s: &[u8], c: Cursor) -> Cursor {
     on(s, on(s, c, 2), short(s, c) as usize)
-}
-
-fn wide(x: u8) -> u32
-    ensures { λ r. ⌜ r < 256 ⌝ }
-{
-    x as u32
-}
-
-pub fn least(x: usize, y: usize) -> usize
-    ensures { λ r. ⌜ (r ≤ x) × (r ≤ y) ⌝ }
-{
-    if x < y { x } else { y }
 }

@@ -1,6 +1,7 @@
 // The call of an insertion. Inputs: a pool, the words lent besides the list (2 bytes), the new item, and the list, after the number of its
 // items (2 bytes).
 use insert::Inserted;
+use key_order::least;
 use vectors::Cursor;
 use vectors::Met;
 use vectors::after_block;
@@ -12,7 +13,6 @@ use vectors::block;
 use vectors::inputs::ITEM_BYTES;
 use vectors::inputs::fill;
 use vectors::inputs::item;
-use vectors::least;
 use vectors::lent::are_same;
 use vectors::lent::is_freed;
 use vectors::lent::is_kept;

@@ -4,6 +4,7 @@ use intersect_many::ManyAnswer;
 use intersect_many::ManyCounts;
 use intersect_many::intersect_many_ordered;
 use item_words::ITEM_SIZE;
+use key_order::least;
 use vectors::Cursor;
 use vectors::Met;
 use vectors::after_block;
@@ -14,7 +15,6 @@ use vectors::answers::refusal_met;
 use vectors::block;
 use vectors::inputs::ITEM_BYTES;
 use vectors::inputs::fill;
-use vectors::least;
 use vectors::lent::front;
 use vectors::lent::is_kept;
 use vectors::lent::room;
@@ -59,44 +59,59 @@ fn fill_theirs(x: &[u8], words: &mut [u32]) -> usize {
 }
 
 fn with_ours<'a>(x: &'a [u8], a: &'a [u8], rust: &'a [u8], ours: &'a [u32]) -> Met {
-    let mut both = room();
-    let mut mine = room();
-    let mut yours = room();
-    let answer = with_theirs(x, ours, &mut both, &mut mine, &mut yours);
-    lists_met(block(x, FRONT), a, rust, &both, &mine, &yours, answer)
+    let mut shared_out = room();
+    let mut ours_out = room();
+    let mut theirs_out = room();
+    let answer = with_theirs(x, ours, &mut shared_out, &mut ours_out, &mut theirs_out);
+    lists_met(
+        block(x, FRONT),
+        a,
+        rust,
+        &shared_out,
+        &ours_out,
+        &theirs_out,
+        answer,
+    )
 }
 
 fn with_theirs(
     x: &[u8],
     ours: &[u32],
-    both: &mut [u32],
-    mine: &mut [u32],
-    yours: &mut [u32],
+    shared_out: &mut [u32],
+    ours_out: &mut [u32],
+    theirs_out: &mut [u32],
 ) -> ManyAnswer {
     let mut theirs = room();
     let given = fill_theirs(x, &mut theirs);
-    call(x, ours, front(&theirs, given), both, mine, yours)
+    call(
+        x,
+        ours,
+        front(&theirs, given),
+        shared_out,
+        ours_out,
+        theirs_out,
+    )
 }
 
 fn call(
     x: &[u8],
     ours: &[u32],
     theirs: &[u32],
-    both: &mut [u32],
-    mine: &mut [u32],
-    yours: &mut [u32],
+    shared_out: &mut [u32],
+    ours_out: &mut [u32],
+    theirs_out: &mut [u32],
 ) -> ManyAnswer {
     let at = after_block(x, FRONT);
-    let p = least(short(x, at) as usize, both.len());
-    let q = least(short(x, on(x, at, 2)) as usize, mine.len());
-    let r = least(short(x, on(x, at, 4)) as usize, yours.len());
+    let p = least(short(x, at) as usize, shared_out.len());
+    let q = least(short(x, on(x, at, 2)) as usize, ours_out.len());
+    let r = least(short(x, on(x, at, 4)) as usize, theirs_out.len());
     intersect_many_ordered(
         block(x, FRONT),
         ours,
         theirs,
-        &mut both[0..p],
-        &mut mine[0..q],
-        &mut yours[0..r],
+        &mut shared_out[0..p],
+        &mut ours_out[0..q],
+        &mut theirs_out[0..r],
     )
 }
 
@@ -104,25 +119,26 @@ fn lists_met<'a>(
     pool: &'a [u8],
     a: &'a [u8],
     rust: &'a [u8],
-    both: &'a [u32],
-    mine: &'a [u32],
-    yours: &'a [u32],
+    shared_out: &'a [u32],
+    ours_out: &'a [u32],
+    theirs_out: &'a [u32],
     answer: ManyAnswer,
 ) -> Met {
     match answer {
         ManyAnswer::Counts(n) => Met {
-            recorded: are_lists(pool, a, both, mine, yours, n) & are_kept(both, mine, yours, n),
-            rust: are_lists(pool, rust, both, mine, yours, n),
+            recorded: are_lists(pool, a, shared_out, ours_out, theirs_out, n)
+                & are_kept(shared_out, ours_out, theirs_out, n),
+            rust: are_lists(pool, rust, shared_out, ours_out, theirs_out, n),
         },
         ManyAnswer::Refused(refusal) => {
             let met = refusal_met(a, rust, refusal);
             let none = ManyCounts {
-                in_both: 0,
+                shared: 0,
                 ours: 0,
                 theirs: 0,
             };
             Met {
-                recorded: met.recorded & are_kept(both, mine, yours, none),
+                recorded: met.recorded & are_kept(shared_out, ours_out, theirs_out, none),
                 rust: met.rust,
             }
         }
@@ -132,18 +148,18 @@ fn lists_met<'a>(
 fn are_lists<'a>(
     pool: &'a [u8],
     a: &'a [u8],
-    both: &'a [u32],
-    mine: &'a [u32],
-    yours: &'a [u32],
+    shared_out: &'a [u32],
+    ours_out: &'a [u32],
+    theirs_out: &'a [u32],
     n: ManyCounts,
 ) -> bool {
-    let shared = holds_items(a, answered(a), pool, both, n.in_both);
-    let ours = holds_items(a, shared, pool, mine, n.ours);
-    is_all(a, holds_items(a, ours, pool, yours, n.theirs))
+    let shared = holds_items(a, answered(a), pool, shared_out, n.shared);
+    let ours = holds_items(a, shared, pool, ours_out, n.ours);
+    is_all(a, holds_items(a, ours, pool, theirs_out, n.theirs))
 }
 
-fn are_kept(both: &[u32], mine: &[u32], yours: &[u32], n: ManyCounts) -> bool {
-    is_kept(both, n.in_both) & is_kept(mine, n.ours) & is_kept(yours, n.theirs)
+fn are_kept(shared_out: &[u32], ours_out: &[u32], theirs_out: &[u32], n: ManyCounts) -> bool {
+    is_kept(shared_out, n.shared) & is_kept(ours_out, n.ours) & is_kept(theirs_out, n.theirs)
 }
 
 fn is_list<'a>(a: &'a [u8], pool: &'a [u8], words: &'a [u32], count: usize) -> bool {

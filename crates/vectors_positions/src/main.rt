@@ -1,10 +1,11 @@
 // Replays recorded answers of module 6, by the code of the call: 1 be_u64, 2 from_query_items, 3 contains, 4 len, 5 is_empty, 6 missing_from,
-// 7 extra_in, 8 missing_from_spans of an array, 9 describe.
+// 7 extra_in, 8 missing_from_spans on the spans' words, 9 describe.
 mod asked;
 mod query;
 mod reports;
 mod words;
 
+use crate::reports::Asked;
 use vectors::Case;
 use vectors::Cursor;
 use vectors::Met;
@@ -79,9 +80,9 @@ fn meet_intervals<'a>(
         3 => asked::contains_met(intervals, x, a, rust),
         4 => asked::len_met(intervals, a, rust),
         5 => asked::is_empty_met(intervals, a, rust),
-        6 => reports::missing_from_met(intervals, x, a, rust),
-        7 => reports::extra_in_met(intervals, x, a, rust),
-        8 => reports::missing_from_spans_met(intervals, x, a, rust),
+        6 => reports::compared_met(Asked::Missing, intervals, x, a, rust),
+        7 => reports::compared_met(Asked::Extra, intervals, x, a, rust),
+        8 => reports::compared_met(Asked::MissingFromSpans, intervals, x, a, rust),
         _ => nothing_met(),
     }
 }

@@ -3,7 +3,8 @@ use crate::words::front;
 use crate::words::holds_all;
 use crate::words::is_left;
 use crate::words::room;
-use item_check::Refusal;
+use item_check::refusal_of;
+use key_order::least;
 use position_given::RowCount;
 use position_given::Stored;
 use position_key::PositionKey;
@@ -20,7 +21,6 @@ use vectors::answers::refusal_met;
 use vectors::block;
 use vectors::inputs::fill;
 use vectors::key;
-use vectors::least;
 use vectors::lent;
 use vectors::long;
 use vectors::on;
@@ -31,11 +31,7 @@ const FRONT: Cursor = Cursor { at: 0 };
 // Inputs: a key. The answer is its position.
 pub(crate) fn be_u64_met<'a>(x: &'a [u8], a: &'a [u8], rust: &'a [u8]) -> Met {
     let PositionKey::At(p) = be_u64(key(x, FRONT)) else {
-        let refusal = Refusal {
-            number: 7,
-            side: 0,
-            index: 0,
-        };
+        let refusal = refusal_of(7, 0, 0);
         return refusal_met(a, rust, refusal);
     };
     Met {

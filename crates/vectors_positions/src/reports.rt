@@ -6,16 +6,16 @@ use crate::words::front;
 use crate::words::holds_all;
 use crate::words::room;
 use item_check::Checked;
+use key_order::least;
 use position_describe::Described;
 use position_describe::describe;
 use position_describe::text_room;
+use position_given::RowCount;
 use position_mismatch::Compared;
 use position_mismatch::compare::extra_in;
 use position_mismatch::compare::missing_from;
+use position_mismatch::spans::missing_from_span_words;
 use position_report::PositionMismatch;
-use position_spans::FEW_SPANS;
-use position_spans::Span;
-use position_spans::missing_from_few_spans;
 use vectors::Cursor;
 use vectors::Met;
 use vectors::answers::answered;
@@ -23,89 +23,43 @@ use vectors::answers::holds_bytes;
 use vectors::answers::holds_long;
 use vectors::answers::holds_short;
 use vectors::answers::is_all;
-use vectors::answers::nothing_met;
 use vectors::answers::refusal_met;
-use vectors::least;
 use vectors::long;
 use vectors::on;
 use vectors::short;
 
 const FRONT: Cursor = Cursor { at: 0 };
 
-pub(crate) fn missing_from_met<'a>(
+// What a call on intervals and on a second list of numbers asks.
+pub(crate) enum Asked {
+    Missing,
+    Extra,
+    MissingFromSpans,
+}
+
+pub(crate) fn compared_met<'a>(
+    asked: Asked,
     intervals: &'a [u64],
     x: &'a [u8],
     a: &'a [u8],
     rust: &'a [u8],
 ) -> Met {
-    report_met(a, rust, with_proved(intervals, x, false))
-}
-
-pub(crate) fn extra_in_met<'a>(
-    intervals: &'a [u64],
-    x: &'a [u8],
-    a: &'a [u8],
-    rust: &'a [u8],
-) -> Met {
-    report_met(a, rust, with_proved(intervals, x, true))
-}
-
-fn with_proved(intervals: &[u64], x: &[u8], extra: bool) -> Compared {
     let mut words = room();
     let at = after(x, FRONT);
     fill(x, at, &mut words);
-    compare(intervals, front(&words, short(x, at) as usize), extra)
-}
-
-fn compare(intervals: &[u64], proved: &[u64], extra: bool) -> Compared {
-    if extra {
-        return extra_in(intervals, proved);
-    }
-    missing_from(intervals, proved)
-}
-
-pub(crate) fn missing_from_spans_met<'a>(
-    intervals: &'a [u64],
-    x: &'a [u8],
-    a: &'a [u8],
-    rust: &'a [u8],
-) -> Met {
-    let at = after(x, FRONT);
-    let count = short(x, at) as usize / 2;
-    if FEW_SPANS < count {
-        return nothing_met();
-    }
     report_met(
         a,
         rust,
-        missing_from_few_spans(intervals, few_spans(x, on(x, at, 2), count)),
+        compare(asked, intervals, front(&words, short(x, at) as usize)),
     )
 }
 
-// So many spans, numbers by twos, and empty ones at the last end.
-fn few_spans(x: &[u8], c: Cursor, count: usize) -> [Span; FEW_SPANS] {
-    let mut all = [Span { start: 0, end: 0 }; FEW_SPANS];
-    let mut at = c;
-    let mut end: u64 = 0;
-    let mut i = 0;
-    while i < FEW_SPANS {
-        let span = span_or_empty(x, at, i < count, end);
-        all[i] = span;
-        end = span.end;
-        at = on(x, at, 16);
-        i += 1;
+fn compare(asked: Asked, intervals: &[u64], second: &[u64]) -> Compared {
+    match asked {
+        Asked::Missing => missing_from(intervals, second),
+        Asked::Extra => extra_in(intervals, second),
+        Asked::MissingFromSpans => missing_from_span_words(intervals, second),
     }
-    all
-}
-
-fn span_or_empty(x: &[u8], at: Cursor, given: bool, end: u64) -> Span {
-    if given {
-        return Span {
-            start: long(x, at),
-            end: long(x, on(x, at, 8)),
-        };
-    }
-    Span { start: end, end }
 }
 
 fn report_met<'a>(a: &'a [u8], rust: &'a [u8], compared: Compared) -> Met {
@@ -122,7 +76,7 @@ fn report_met<'a>(a: &'a [u8], rust: &'a [u8], compared: Compared) -> Met {
 
 fn is_report(a: &[u8], report: PositionMismatch) -> bool {
     let examples = report.examples;
-    let total = holds_long(a, answered(a), report.total);
+    let total = holds_long(a, answered(a), report.total.0);
     let count = holds_short(a, total, report.count as u64);
     is_all(a, holds_all(a, count, &examples))
 }
@@ -151,7 +105,7 @@ const BYTE_MARK: u8 = 254;
 
 fn call(x: &[u8], out: &mut [u8]) -> Described {
     let report = PositionMismatch {
-        total: long(x, FRONT),
+        total: RowCount(long(x, FRONT)),
         count: short(x, Cursor { at: 8 }) as usize,
         examples: examples(x, Cursor { at: 10 }),
     };

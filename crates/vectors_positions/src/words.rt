@@ -1,10 +1,10 @@
 // Numbers of 8 bytes: given, answered and lent.
 ghost use mathlib.Core.Path.{_≡_};
 ghost use lib.ListN.{length};
+use key_order::least;
 use vectors::Cursor;
 use vectors::answers::Held;
 use vectors::answers::holds_long;
-use vectors::least;
 use vectors::long;
 use vectors::on;
 use vectors::short;

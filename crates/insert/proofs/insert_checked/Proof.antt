@@ -11,7 +11,8 @@ use Rattle.query_item.specs.Items.{itemSize, itemsFrom}
 use Rattle.item_check.specs.Checks.{mostItems}
 use Rattle.item_lists.proofs.Words.{length-items}
 use Rattle.insert.proofs.Windows.{ascending}
-use Rattle.insert.proofs.Tails.{length-staying, first-in, tail-room, tail-stay, tail-laid, after-is, after-placed, room-is}
+use Rattle.insert_merge.proofs.Staying.{length-staying}
+use Rattle.insert.proofs.Tails.{first-in, tail-room, tail-stay, tail-laid, after-is, after-placed, room-is}
 use Rattle.insert.proofs.insert_checked.Statement.{statement}
 use Rattle.insert.proofs.insert_checked.Tie as tie
 
@@ -28,16 +29,17 @@ add-after c =
     let args = start .args in
     let its = itemsFrom (args .words .now) 0 (args .count) in
     let stay = length-staying (args .pool .now) (args .item) its in
-    omega (arith, found .find-result .ensures .1, stay, length-items (args .words .now) 0 (args .count), start .pre .0)
+    omega (arith, found .find-result .ensures .stay, stay, length-items (args .words .now) 0 (args .count), start .pre .0)
 
 returns : tie.Need-returns
 returns c =
-    let found = c .before .before .before in
+    let asked = c .before in
+    let found = asked .before .before .before in
     let words = found .before .before .before .before .before .before .args .words .now in
     let count = found .find-result .result .stay + 1 in
-    let no-room : ltb (length words / itemSize) count || ltb mostItems count ≡ true = c .if1 .taken in
-    let after = after-is _ _ _ (found .find-result .ensures .1) in
-    (rw (← after, no-room), rw (← after, no-room))
+    let no-room : ltb (length words / itemSize) count || ltb mostItems count ≡ true = asked .if1 .taken in
+    let after = after-is _ _ _ (found .find-result .ensures .stay) in
+    (rw (c .refusal-of .ensures, ← after, no-room), rw (← after, no-room))
 
 first-changed-requires : tie.Need-first-changed-requires
 first-changed-requires c κs =
@@ -78,7 +80,7 @@ rewrite-requires c κs =
     let start = window .before .before .before .before in
     let fits =
     tail-room _ _ _ _ _ (first .first-changed .ensures) (start .pre .0)
-    (rw (← after-placed _ _ _ _ (found .find-result .ensures .1)) (room-is _ _ _ (room .if1 .left))) in
+    (rw (← after-placed _ _ _ _ (found .find-result .ensures .stay)) (room-is _ _ _ (room .if1 .left))) in
     (fits .0, fits .1, tail-stay _ _ _ _ _ (first .first-changed .ensures) _ (c .less .ensures) (window .find-window .ensures .back))
 
 returns-2 : tie.Need-returns-2
@@ -87,10 +89,10 @@ returns-2 c =
     let room = first .before .before in
     let found = room .before .before .before in
     let start = found .before .before .before .before .before .before in
-    let after = after-is _ _ _ (found .find-result .ensures .1) in (
+    let after = after-is _ _ _ (found .find-result .ensures .stay) in (
       rw (← after, room .if1 .left),
       rw (← after, room .if1 .left)
-          (tail-laid _ _ _ _ _ (first .first-changed .ensures) (start .pre .0) (found .find-result .ensures .0) (c .before .before .rewrite .ensures)),
+          (tail-laid _ _ _ _ _ (first .first-changed .ensures) (start .pre .0) (found .find-result .ensures .result) (c .before .before .rewrite .ensures)),
     )
 
 pub insert-checked-spec : {M : Type 1} → statement M
@@ -100,6 +102,7 @@ insert-checked-spec =
     find-window-requires
     find-result-requires
     add-after
+    (λ c κs. search needs)
     (λ c. search needs)
     returns
     first-changed-requires

@@ -8,7 +8,8 @@ use lib.ListN.{length}
 use borrow.Author.Needs.{needs}
 use Rattle.query_item.specs.Items.{itemsFrom}
 use Rattle.insert_merge.specs.Merge.{staying, mergedWith}
-use Rattle.insert_merge.proofs.Reading.{one-at-most, merged-more, merged-end, stay-more, stay-end}
+use Rattle.insert_merge.proofs.Staying.{one-at-most}
+use Rattle.insert_merge.proofs.Reading.{merged-more, merged-end, stay-more, stay-end}
 use Rattle.insert_merge.proofs.find_merged.Statement.{statement}
 use Rattle.insert_merge.proofs.find_merged.Tie as tie
 
@@ -43,10 +44,11 @@ loop-again c =
 returns : tie.Need-returns Inv-loop μ-loop
 returns c =
     let args = c .before .before .before .before .args in
-    let stop = c .loop-test .left in (
-      sym (c .before .loop .inv .1 ∙ merged-end _ _ _ _ _ _ stop),
-      omega (arith, c .before .loop .inv .2, stay-end (args .pool .now) (args .words .now) (c .before .loop .i) (args .to) (args .item) stop),
-    )
+    let stop = c .loop-test .left in
+    record {
+      result = sym (c .before .loop .inv .1 ∙ merged-end _ _ _ _ _ _ stop);
+      stay = omega (arith, c .before .loop .inv .2, stay-end (args .pool .now) (args .words .now) (c .before .loop .i) (args .to) (args .item) stop);
+    }
 
 pub find-merged-spec : {M : Type 1} → statement M
 find-merged-spec =

@@ -6,7 +6,9 @@ use Rattle.insert_merge.proofs.merge.Tie as tie
 
 returns : tie.Need-returns
 unfolding merged
-returns c = rw (c .plain-item .ensures, c .before .to-query-item .ensures, c .before .before .hull-of .ensures, c .before .before .before .range-of2 .ensures, c .before .before .before .before .range-of .ensures)
+returns c =
+    let hull = c .before .before in
+    rw (c .plain-item .ensures, c .before .to-query-item .ensures, hull .hull-of .ensures, hull .before .range-of2 .ensures, hull .before .before .range-of .ensures)
 
 pub merge-spec : {M : Type 1} → statement M
 merge-spec =

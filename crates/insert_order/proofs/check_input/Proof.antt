@@ -3,9 +3,6 @@ use borrow.Author.Needs.{needs}
 use Rattle.insert_order.proofs.check_input.Statement.{statement}
 use Rattle.insert_order.proofs.check_input.Tie as tie
 
-returns : tie.Need-returns
-returns c = rw (← c .before .before .before .check-pool .ensures, c .before .r .given .1)
-
 returns-2 : tie.Need-returns-2
 returns-2 c =
     let buffer = c .before .before .before in
@@ -56,7 +53,7 @@ check-input-spec =
     (λ c. search needs)
     (λ c κs. search needs)
     (λ c κs. search needs)
-    returns
+    (λ c. rw (← c .before .before .before .check-pool .ensures, c .before .r .given .1))
     returns-2
     returns-3
     returns-4)

@@ -12,7 +12,7 @@ returns c = rw (c .if1 .taken)
 
 returns-2 : tie.Need-returns-2
 unfolding lastOrder
-returns-2 c = (rw (c .before .item-at .ensures) at (c .order-items .ensures)) ∙ sym (last-before _ _ _ _ (c .before .before .if1 .left))
+returns-2 c = (rw (c .before .item-at .ensures) at (c .compare-items .ensures)) ∙ sym (last-before _ _ _ _ (c .before .before .if1 .left))
 
 pub last-order-spec : {M : Type 1} → statement M
 last-order-spec =

@@ -5,9 +5,7 @@ use Rattle.intersect_many.proofs.count.Statement.{statement}
 use Rattle.intersect_many.proofs.count.Tie as tie
 
 returns : tie.Need-returns
-returns c =
-    let swept = c .before .before .before .sweep .ensures in
-    counted _ _ _ _ (swept .0) (swept .1 .0) (swept .1 .1 .0)
+returns c = counted _ _ _ _ (c .before .before .before .sweep .ensures)
 
 pub count-spec : {M : Type 1} → statement M
 count-spec =

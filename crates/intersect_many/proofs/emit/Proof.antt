@@ -23,7 +23,8 @@ put-left-requires c κs =
 
 put-left-requires-2 : tie.Need-put-left-requires-2
 put-left-requires-2 c κs =
-    let compared = c .before .before .before .before .before .before .before .before .before .before .before .before in
+    let ours = c .before .before .before .before .before .before in
+    let compared = ours .before .before .before .before .before .before in
     let start = compared .before .before .before .before .before in
     let args = start .args in (
       omega (arith, start .pre),
@@ -40,14 +41,15 @@ returns c =
     let args = start .args in
     let turn = start .pre in
     let starts = compared .compare-in .ensures in
-    let met : shared .before .overlap-by .result ≡ overlap (args .pool .now) (args .a) (args .b) = shared .before .overlap-by .ensures ∙ rw (starts, turn .ends-are) in
-    let item : pieceItem (args .pool .now) (shared .before .overlap-by .result) ≡ pieceItem (args .pool .now) (overlap (args .pool .now) (args .a) (args .b)) = ap (pieceItem (args .pool .now)) met in (
-      rw (turn .shared, keyed-one (args .pool .now), ← item) (shared .put-set .ensures),
-      (
-        rw (turn .our-left, ← starts, ← ours .before .before .is-less .ensures) (ours .put-left .ensures),
-        rw (turn .their-left, ← starts, ← theirs .before .before .is-at-most .ensures) (theirs .put-left2 .ensures),
-      ),
-    )
+    let met : shared .before .overlap-by .result ≡ overlap (args .pool .now) (args .a) (args .b) =
+    shared .before .overlap-by .ensures ∙ rw (starts, turn .ends-are) in
+    let item : pieceItem (args .pool .now) (shared .before .overlap-by .result) ≡ pieceItem (args .pool .now) (overlap (args .pool .now) (args .a) (args .b)) =
+    ap (pieceItem (args .pool .now)) met in
+    record {
+      shared = rw (turn .shared, keyed-one (args .pool .now), ← item) (shared .put-set .ensures);
+      our-left = rw (turn .our-left, ← starts, ← ours .before .before .is-less .ensures) (ours .put-left .ensures);
+      their-left = rw (turn .their-left, ← starts, ← theirs .before .before .is-at-most .ensures) (theirs .put-left2 .ensures);
+    }
 
 pub emit-spec : {M : Type 1} → statement M
 emit-spec =

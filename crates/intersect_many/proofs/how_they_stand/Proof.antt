@@ -15,7 +15,9 @@ returns-2 : tie.Need-returns-2
 returns-2 c = rw (← c .before .before .before .is-before .ensures, c .before .before .if1 .left, ← c .before .is-before2 .ensures, c .if2 .taken)
 
 returns-3 : tie.Need-returns-3
-returns-3 c = rw (← c .before .before .before .before .is-before .ensures, c .before .before .before .if1 .left, ← c .before .before .is-before2 .ensures, c .before .if2 .left, c .compare-in .ensures)
+returns-3 c =
+    let second = c .before .before in
+    rw (← second .before .before .is-before .ensures, second .before .if1 .left, ← second .is-before2 .ensures, c .before .if2 .left, c .compare-in .ensures)
 
 pub how-they-stand-spec : {M : Type 1} → statement M
 how-they-stand-spec =

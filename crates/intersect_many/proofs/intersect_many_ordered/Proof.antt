@@ -9,20 +9,30 @@ use Rattle.intersect_many.proofs.intersect_many_ordered.Tie as tie
 
 write-lists-requires : tie.Need-write-lists-requires
 write-lists-requires c κs =
-    let a = c .before .before .before .before .before .before .before .before .before .before .before .before .args in
-    both-accepted (a .pool .now) (a .ours .now) (a .theirs .now) (sym (c .before .before .before .before .before .check-lists .ensures) ∙ ap verdictOf (c .before .before .before .enum-told .given .1))
+    let told = c .before .before .before in
+    let checked = told .before .before in
+    let a = checked .before .before .before .before .before .before .before .args in
+    both-accepted (a .pool .now) (a .ours .now) (a .theirs .now) (sym (checked .check-lists .ensures) ∙ ap verdictOf (told .enum-told .given .1))
 
 returns : tie.Need-returns
-returns c = (rw (← c .before .before .before .check-lists .ensures, c .before .r .given .1), (rw (← c .before .before .before .check-lists .ensures, c .before .r .given .1), (rw (← c .before .before .before .check-lists .ensures, c .before .r .given .1), rw (← c .before .before .before .check-lists .ensures, c .before .r .given .1))))
+returns c =
+    let checked = c .before .before .before .check-lists .ensures in
+    let given = c .before .r .given .1 in
+    record { told = rw (← checked, given); shared = rw (← checked, given); ours-only = rw (← checked, given); theirs-only = rw (← checked, given) }
 
 returns-2 : tie.Need-returns-2
-returns-2 c = (
-  rw (← c .before .before .before .before .before .before .before .before .before .before .before .before .check-lists .ensures, c .before .before .before .before .before .before .before .before .before .before .enum-told .given .1) (c .before .before .before .before .before .before .write-lists .ensures .0),
-  (
-    rw (← c .before .before .before .before .before .before .before .before .before .before .before .before .check-lists .ensures, c .before .before .before .before .before .before .before .before .before .before .enum-told .given .1) (c .before .before .before .before .before .before .write-lists .ensures .1 .0),
-    (rw (← c .before .before .before .before .before .before .before .before .before .before .before .before .check-lists .ensures, c .before .before .before .before .before .before .before .before .before .before .enum-told .given .1) (c .before .before .before .before .before .before .write-lists .ensures .1 .1 .0), rw (← c .before .before .before .before .before .before .before .before .before .before .before .before .check-lists .ensures, c .before .before .before .before .before .before .before .before .before .before .enum-told .given .1) (c .before .before .before .before .before .before .write-lists .ensures .1 .1 .1)),
-  ),
-)
+returns-2 c =
+    let wrote = c .before .before .before .before .before .before in
+    let told = wrote .before .before .before .before in
+    let checked = told .before .before .check-lists .ensures in
+    let given = told .enum-told .given .1 in
+    let lists = wrote .write-lists .ensures in
+    record {
+      told = rw (← checked, given) (lists .told);
+      shared = rw (← checked, given) (lists .shared);
+      ours-only = rw (← checked, given) (lists .ours-only);
+      theirs-only = rw (← checked, given) (lists .theirs-only);
+    }
 
 pub intersect-many-ordered-spec : {M : Type 1} → statement M
 intersect-many-ordered-spec =

@@ -5,10 +5,10 @@ use native.Mathlib.Omega.{arith}
 use borrow.Author.Needs.{needs}
 use Rattle.query_item.specs.Boundaries.{setAt}
 use Rattle.keyless.specs.Keyless.{pieceItem}
-use Rattle.item_lists.specs.Written.{asItems}
+use Rattle.item_lists.specs.Written.{asItems, Put}
+use Rattle.item_lists.proofs.Written.{at-most-one, Left, left-start, left-put, left-done, put-then}
 use Rattle.intersect_many.specs.Lists.{keyedItems}
-use Rattle.intersect_many.specs.Sweep.{setsLeft, Put}
-use Rattle.intersect_many.proofs.Written.{one, Left, left-start, left-put, left-done, put-then}
+use Rattle.intersect_many.specs.Sweep.{setsLeft, mostPieces}
 use Rattle.intersect_many.proofs.Pieces.{keyed-none, put-none-keyed}
 use Rattle.intersect_many.proofs.Rests.{sets-end, rest-end, keyed-more, keyed-rest}
 use Rattle.intersect_many.proofs.put_rest.Statement.{statement}
@@ -17,7 +17,7 @@ use Rattle.intersect_many.proofs.put_rest.Tie as tie
 abbrev Inv-loop : tie.InvT-loop
 Inv-loop pool words i out₀ n count m₀ k₀ out m k =
     (k ≤ count)
-    × (m + count ≤ 4096 + k)
+    × (m + count ≤ mostPieces + k)
     × (Left (keyedItems pool (setsLeft words (i + 1))) out₀ m₀ out m (keyedItems pool (setsLeft words k)))
 
 abbrev μ-loop : tie.MeasureT-loop
@@ -32,7 +32,7 @@ loop-holds : tie.Need-loop-holds Inv-loop μ-loop
 loop-holds c =
     let args = c .before .before .before .before .before .before .before .before .args in (
       search needs,
-      omega (arith, c .before .before .put-set .ensures .count, one (pieceItem (args .pool .now) (args .x))),
+      omega (arith, c .before .before .put-set .ensures .count, at-most-one (pieceItem (args .pool .now) (args .x))),
       left-start _ _ _,
     )
 
@@ -45,7 +45,7 @@ loop-again c =
     let item = pieceItem (args .pool .now) (setAt (args .words .now) (at .loop .k)) in
     let p : Put _ (at .loop .m) (asItems item) _ _ = rw (c .before .before .before .set-at .ensures) at put in (
       search needs,
-      omega (arith, at .loop .inv .1, p .count, one item),
+      omega (arith, at .loop .inv .1, p .count, at-most-one item),
       left-put (at .loop .inv .2) (asItems item) _ (keyed-more (args .pool .now) (args .words .now) (at .loop .k) (turn .loop-test .taken)) p,
     )
 

@@ -1,14 +1,14 @@
 -- `intersect_many::put_set` meets its contract: nothing, or one item. Assumes nothing.
 use native.Mathlib.Omega.{arith}
 use borrow.Author.Needs.{needs}
-use Rattle.intersect_many.proofs.Written.{one}
+use Rattle.item_lists.proofs.Written.{at-most-one}
 use Rattle.intersect_many.proofs.put_set.Statement.{statement}
 use Rattle.intersect_many.proofs.put_set.Tie as tie
 
 add-result : tie.Need-add-result
 add-result c =
     let start = c .before .before .before .before .before .before .before in
-    omega (arith, c .before .before .put-item .ensures .0, one (c .before .before .before .piece-item .result), start .pre)
+    omega (arith, c .before .before .put-item .ensures .0, at-most-one (c .before .before .before .piece-item .result), start .pre)
 
 returns : tie.Need-returns
 returns c =

@@ -12,7 +12,7 @@ use borrow.Author.Tests.{ltb-true, ltb-false}
 use Rattle.query_item.specs.Items.{itemSize}
 use Rattle.query_item.specs.Boundaries.{setAt}
 use Rattle.item_check.proofs.Laws.{accepted-list}
-use Rattle.intersect_many.proofs.Written.{left-done, left-finish}
+use Rattle.item_lists.proofs.Written.{left-done, left-finish}
 use Rattle.intersect_many.proofs.Rests.{rest-few}
 use Rattle.intersect_many.proofs.Swept.{Swept, ranks-say, only-end, shared-end, swept-start, swept-turn, swept-before, swept-after, swept-less, swept-greater, swept-equal}
 use Rattle.intersect_many.proofs.Stands.{stands-before, stands-after, stands-meets}
@@ -38,16 +38,18 @@ other (inl a) = inr a
 other (inr b) = inl b
 
 abbrev Inv-loop : tie.InvT-loop
-Inv-loop pool ours theirs both₀ mine₀ yours₀ our-count their-count n₀ i₀ j₀ a₀ b₀ x₀ y₀ both mine yours n i j a b x y =
-    Swept pool ours theirs both₀ mine₀ yours₀ both mine yours n i j x y × (a ≡ setAt ours i) × (b ≡ setAt theirs j)
+Inv-loop pool ours theirs sharedOut₀ oursOut₀ theirsOut₀ our-count their-count n₀ i₀ j₀ a₀ b₀ x₀ y₀ sharedOut oursOut theirsOut n i j a b x y =
+    Swept pool ours theirs sharedOut₀ oursOut₀ theirsOut₀ sharedOut oursOut theirsOut n i j x y × (a ≡ setAt ours i) × (b ≡ setAt theirs j)
 
 abbrev μ-loop : tie.MeasureT-loop
-μ-loop pool ours theirs both₀ mine₀ yours₀ our-count their-count n₀ i₀ j₀ a₀ b₀ x₀ y₀ both mine yours n i j a b x y =
+μ-loop pool ours theirs sharedOut₀ oursOut₀ theirsOut₀ our-count their-count n₀ i₀ j₀ a₀ b₀ x₀ y₀ sharedOut oursOut theirsOut n i j a b x y =
     (our-count - i) + (their-count - j)
 
 -- in a turn both indexes are inside
 test : (c : tie.In-loop Inv-loop μ-loop)
-    → (c .before .loop .i < length (c .before .before .before .before .before .before .before .before .before .before .args .ours .now) / itemSize) × (c .before .loop .j < length (c .before .before .before .before .before .before .before .before .before .before .args .theirs .now) / itemSize)
+    → let at = c .before in
+    let args = at .before .before .before .before .before .before .before .before .before .args in
+    (at .loop .i < length (args .ours .now) / itemSize) × (at .loop .j < length (args .theirs .now) / itemSize)
 test c =
     let told = inside (c .before .loop .i) (c .before .loop .j) _ _ (c .loop-test .taken) in
     (omega (arith, told .0), omega (arith, told .1))
@@ -81,7 +83,7 @@ loop-again c =
     let both = test (stand .before) in
     let v = at .loop .inv in
     let with = c .before .with-ours .ensures in (
-      swept-before _ _ _ _ _ _ _ _ _ _ _ _ _ _ (v .0) (both .0) (both .1) _ _ (v .1) (v .2) _ _ _
+      swept-before _ (v .0) (both .0) (both .1) (v .1) (v .2)
           (stands-before (args .pool .now) (at .loop .a) (at .loop .b) (sym (stand .how-they-stand .ensures) ∙ told .enum-told .given .1))
           (with .0) (with .2) (rw (with .1) (c .before .before .before .before .put-set .ensures)) (c .set-at3 .ensures),
       c .set-at3 .ensures,
@@ -106,7 +108,7 @@ loop-again-2 c =
     let both = test (stand .before) in
     let v = at .loop .inv in
     let with = c .before .with-theirs .ensures in (
-      swept-after _ _ _ _ _ _ _ _ _ _ _ _ _ _ (v .0) (both .0) (both .1) _ _ (v .1) (v .2) _ _ _
+      swept-after _ (v .0) (both .0) (both .1) (v .1) (v .2)
           (stands-after (args .pool .now) (at .loop .a) (at .loop .b) (sym (stand .how-they-stand .ensures) ∙ told .enum-told2 .given .1))
           (with .0) (with .1) (rw (with .2) (c .before .before .before .before .put-set2 .ensures)) (c .set-at4 .ensures),
       v .1,
@@ -122,21 +124,28 @@ emit-requires c κs =
     let both = test (stand .before) in
     let v = at .loop .inv in
     let meets = stands-meets (args .pool .now) (at .loop .a) (at .loop .b) _ (sym (stand .how-they-stand .ensures) ∙ ends .ends .given .1) in
-    swept-turn _ _ _ _ _ _ _ _ _ _ _ _ _ _ (v .0) (both .0) (both .1) _ _ (v .1) (v .2) _ (meets .0) (meets .1) (meets .2)
+    swept-turn _ (v .0) (both .0) (both .1) (v .1) (v .2) (meets .0) (meets .1) (meets .2)
 
 right-set-requires : tie.Need-right-set-requires Inv-loop μ-loop
 right-set-requires c κs =
-    let ends = c .before .before .before .before .before .before .before .before .before .before .before .before .before in
+    let emit = c .before .before .before .before .before .before .before .before in
+    let ends = emit .before .before .before .before .before in
     let stand = ends .before .before in
     let at = stand .before .before in
     let args = at .before .before .before .before .before .before .before .before .before .args in
     stands-meets (args .pool .now) (at .loop .a) (at .loop .b) _ (sym (stand .how-they-stand .ensures) ∙ ends .ends .given .1) .1
 
 add-i-2 : tie.Need-add-i-2 Inv-loop μ-loop
-add-i-2 c = omega (arith, test (c .before .before .before .before .before .before .before .before .before .before .before .before .before .before .before .before .before), c .before .before .before .before .before .before .before .before .before .before .before .before .before .before .before .before .before .before .loop .inv .0)
+add-i-2 c =
+    let emit = c .before .before .before .before .before .before .before .before .before in
+    let turn = emit .before .before .before .before .before .before .before .before in
+    omega (arith, test turn, turn .before .loop .inv .0)
 
 loop-less-3 : tie.Need-loop-less-3 Inv-loop μ-loop
-loop-less-3 c = omega (arith, test (c .before .before .before .before .before .before .before .before .before .before .before .before .before .before .before .before .before .before))
+loop-less-3 c =
+    let emit = c .before .before .before .before .before .before .before .before .before in
+    let turn = emit .before .before .before .before .before .before .before .before .before in
+    omega (arith, test turn)
 
 loop-again-3 : tie.Need-loop-again-3 Inv-loop μ-loop
 loop-again-3 c =
@@ -149,7 +158,7 @@ loop-again-3 c =
     let v = at .loop .inv in
     let put = emit .emit .ensures in
     let meets = stands-meets (args .pool .now) (at .loop .a) (at .loop .b) _ (sym (stand .how-they-stand .ensures) ∙ ends .ends .given .1) in (
-      swept-less _ _ _ _ _ _ _ _ _ _ _ _ _ _ (v .0) (both .0) (both .1) _ _ (v .1) (v .2) _ _ _ _ (put .0) (put .1 .0) (put .1 .1) _ _
+      swept-less _ (v .0) (both .0) (both .1) (v .1) (v .2) put
           (ranks-say (args .pool .now) (at .loop .a .end) (at .loop .b .end) (sym (meets .0) ∙ c .before .before .enum-told3 .given .1))
           (c .set-at5 .ensures) (c .before .right-set .ensures),
       c .set-at5 .ensures,
@@ -158,17 +167,24 @@ loop-again-3 c =
 
 right-set-requires-2 : tie.Need-right-set-requires-2 Inv-loop μ-loop
 right-set-requires-2 c κs =
-    let ends = c .before .before .before .before .before .before .before .before .before .before .before .before .before in
+    let emit = c .before .before .before .before .before .before .before .before in
+    let ends = emit .before .before .before .before .before in
     let stand = ends .before .before in
     let at = stand .before .before in
     let args = at .before .before .before .before .before .before .before .before .before .args in
     stands-meets (args .pool .now) (at .loop .a) (at .loop .b) _ (sym (stand .how-they-stand .ensures) ∙ ends .ends .given .1) .2
 
 add-j-2 : tie.Need-add-j-2 Inv-loop μ-loop
-add-j-2 c = omega (arith, test (c .before .before .before .before .before .before .before .before .before .before .before .before .before .before .before .before .before), c .before .before .before .before .before .before .before .before .before .before .before .before .before .before .before .before .before .before .loop .inv .0)
+add-j-2 c =
+    let emit = c .before .before .before .before .before .before .before .before .before in
+    let turn = emit .before .before .before .before .before .before .before .before in
+    omega (arith, test turn, turn .before .loop .inv .0)
 
 loop-less-4 : tie.Need-loop-less-4 Inv-loop μ-loop
-loop-less-4 c = omega (arith, test (c .before .before .before .before .before .before .before .before .before .before .before .before .before .before .before .before .before .before))
+loop-less-4 c =
+    let emit = c .before .before .before .before .before .before .before .before .before in
+    let turn = emit .before .before .before .before .before .before .before .before .before in
+    omega (arith, test turn)
 
 loop-again-4 : tie.Need-loop-again-4 Inv-loop μ-loop
 loop-again-4 c =
@@ -181,7 +197,7 @@ loop-again-4 c =
     let v = at .loop .inv in
     let put = emit .emit .ensures in
     let meets = stands-meets (args .pool .now) (at .loop .a) (at .loop .b) _ (sym (stand .how-they-stand .ensures) ∙ ends .ends .given .1) in (
-      swept-greater _ _ _ _ _ _ _ _ _ _ _ _ _ _ (v .0) (both .0) (both .1) _ _ (v .1) (v .2) _ _ _ _ (put .0) (put .1 .0) (put .1 .1) _ _
+      swept-greater _ (v .0) (both .0) (both .1) (v .1) (v .2) put
           (ranks-say (args .pool .now) (at .loop .a .end) (at .loop .b .end) (sym (meets .0) ∙ c .before .before .enum-told4 .given .1))
           (c .before .right-set2 .ensures) (c .set-at6 .ensures),
       v .1,
@@ -189,13 +205,22 @@ loop-again-4 c =
     )
 
 add-i-3 : tie.Need-add-i-3 Inv-loop μ-loop
-add-i-3 c = omega (arith, test (c .before .before .before .before .before .before .before .before .before .before .before .before .before .before .before .before))
+add-i-3 c =
+    let emit = c .before .before .before .before .before .before .before .before in
+    let turn = emit .before .before .before .before .before .before .before .before in
+    omega (arith, test turn)
 
 add-j-3 : tie.Need-add-j-3 Inv-loop μ-loop
-add-j-3 c = omega (arith, test (c .before .before .before .before .before .before .before .before .before .before .before .before .before .before .before .before))
+add-j-3 c =
+    let emit = c .before .before .before .before .before .before .before .before in
+    let turn = emit .before .before .before .before .before .before .before .before in
+    omega (arith, test turn)
 
 loop-less-5 : tie.Need-loop-less-5 Inv-loop μ-loop
-loop-less-5 c = omega (arith, test (c .before .before .before .before .before .before .before .before .before .before .before .before .before .before .before .before .before .before))
+loop-less-5 c =
+    let emit = c .before .before .before .before .before .before .before .before .before in
+    let turn = emit .before .before .before .before .before .before .before .before .before in
+    omega (arith, test turn)
 
 loop-again-5 : tie.Need-loop-again-5 Inv-loop μ-loop
 loop-again-5 c =
@@ -208,7 +233,7 @@ loop-again-5 c =
     let v = at .loop .inv in
     let put = emit .emit .ensures in
     let meets = stands-meets (args .pool .now) (at .loop .a) (at .loop .b) _ (sym (stand .how-they-stand .ensures) ∙ ends .ends .given .1) in (
-      swept-equal _ _ _ _ _ _ _ _ _ _ _ _ _ _ (v .0) (both .0) (both .1) _ _ (v .1) (v .2) _ _ _ _ (put .0) (put .1 .0) (put .1 .1) _ _
+      swept-equal _ (v .0) (both .0) (both .1) (v .1) (v .2) put
           (ranks-say (args .pool .now) (at .loop .a .end) (at .loop .b .end) (sym (meets .0) ∙ c .before .before .enum-told5 .given .1))
           (c .before .set-at7 .ensures) (c .set-at8 .ensures),
       c .before .set-at7 .ensures,
@@ -222,27 +247,30 @@ put-rest-requires-2 : tie.Need-put-rest-requires-2 Inv-loop μ-loop
 put-rest-requires-2 c κs = omega (arith, c .before .before .before .before .before .before .loop .inv .0)
 
 same-length : tie.Need-same-length Inv-loop μ-loop
-same-length c = c .before .before .before .before .before .before .before .before .before .loop .inv .0 .shared .words .same
+same-length c = c .before .before .before .before .before .before .before .before .before .loop .inv .0 .shared .same
 
 returns : tie.Need-returns Inv-loop μ-loop
 returns c =
-    let at = c .before .before .before .before .before .before .before .before .before in
-    let start = at .before .before .before .before .before .before .before .before .before in
+    let theirs = c .before .before in
+    let ours = theirs .before .before .before .before in
+    let ended-at = ours .before .before in
+    let at = ended-at .before in
+    let args = at .before .before .before .before .before .before .before .before .before .args in
     let v = at .loop .inv .0 in
-    let ended = over (at .loop .i) (at .loop .j) _ _ (c .before .before .before .before .before .before .before .before .loop-test .left) in (
-      left-done (shared-end (start .args .pool .now) (start .args .ours .now) (start .args .theirs .now) (at .loop .i) (at .loop .j) (v .shared) ended) refl,
-      (
-        left-finish (only-end (start .args .pool .now) (at .loop .i) (at .loop .j) (at .loop .x) (v .our-only) ended) (c .before .before .before .before .before .before .put-rest .ensures),
-        (
-          left-finish (only-end (start .args .pool .now) (at .loop .j) (at .loop .i) (at .loop .y) (v .their-only) (other ended)) (c .before .before .put-rest2 .ensures),
-          record {
-            shared = omega (arith, v .shared-few, v .our-in, v .their-in);
-            our-only = omega (arith, v .ours-few, v .our-in, v .their-in, c .before .before .before .before .before .before .put-rest .ensures .count, rest-few (start .args .pool .now) (start .args .ours .now) (at .loop .i) (at .loop .x));
-            their-only = omega (arith, v .theirs-few, v .our-in, v .their-in, c .before .before .put-rest2 .ensures .count, rest-few (start .args .pool .now) (start .args .theirs .now) (at .loop .j) (at .loop .y));
-          },
-        ),
-      ),
-    )
+    let pool = args .pool .now in
+    let i = at .loop .i in
+    let j = at .loop .j in
+    let ended = over i j _ _ (ended-at .loop-test .left) in
+    record {
+      shared = left-done (shared-end pool (args .ours .now) (args .theirs .now) i j (v .shared) ended) refl;
+      ours-only = left-finish (only-end pool (v .ours-only) ended) (ours .put-rest .ensures);
+      theirs-only = left-finish (only-end pool (v .theirs-only) (other ended)) (theirs .put-rest2 .ensures);
+      few = record {
+        shared = omega (arith, v .shared-few, v .our-in, v .their-in);
+        ours-only = omega (arith, v .ours-few, v .our-in, v .their-in, ours .put-rest .ensures .count, rest-few pool (args .ours .now) i (at .loop .x));
+        theirs-only = omega (arith, v .theirs-few, v .our-in, v .their-in, theirs .put-rest2 .ensures .count, rest-few pool (args .theirs .now) j (at .loop .y));
+      };
+    }
 
 pub sweep-spec : {M : Type 1} → statement M
 sweep-spec =

@@ -1,42 +1,49 @@
 -- `intersect_many::write_lists` meets its contract: with room for all that there can be the pass writes; else it counts, the room is refused and
 -- nothing is written, or the pass writes what it counted. Assumes nothing.
 use Prim.Native.Nat.{_/_, _+_}
+use mathlib.Core.Path.{sym, _∙_}
 use lib.ListN.{length}
+use borrow.Author.Tests.{not-true}
 use Rattle.query_item.specs.Items.{itemSize}
 use Rattle.intersect_many.specs.declared.ManyCounts.{ManyCounts}
-use Rattle.intersect_many.proofs.Room.{counted, room-lacks, room-there, room-there-not, room-for-fewer, room-refused, lists-answered}
+use Rattle.intersect_many.proofs.Room.{counted, room-for-fewer, lists-refused, lists-answered}
 use borrow.Author.Needs.{needs}
 use Rattle.intersect_many.proofs.write_lists.Statement.{statement}
 use Rattle.intersect_many.proofs.write_lists.Tie as tie
 
 returns : tie.Need-returns
 returns c =
-    let a = c .before .before .before .before .before .before .before .before .before .before .before .before .before .before .before .before .before .before .before .before .before .args in
-    let swept = c .before .before .before .before .before .before .sweep in
-    let is = counted (a .pool .now) (a .ours .now) (a .theirs .now) (swept .result) (swept .ensures .0) (swept .ensures .1 .0) (swept .ensures .1 .1 .0) in
-    let few = swept .ensures .1 .1 .1 in
+    let pass = c .before .before .before .before .before .before in
+    let asked = pass .before .before .before .before in
+    let a = asked .before .before .before .before .before .before .before .before .before .before .before .args in
+    let swept = pass .sweep in
+    let few = swept .ensures .few in
     let all = length (a .ours .now) / itemSize + length (a .theirs .now) / itemSize in
-    let most : ManyCounts = record { «in_both» = all; ours = all; theirs = all } in
-    let there = room-there-not most (a .both .now) (a .mine .now) (a .yours .now) (c .before .before .before .before .before .before .before .before .before .before .before .lack-room .ensures) (c .before .before .before .before .before .before .before .before .before .before .if1 .taken) in
-    let room = room-for-fewer (swept .result) most (a .both .now) (a .mine .now) (a .yours .now) (few .shared) (few .our-only) (few .their-only) there in
-    let e = lists-answered (a .pool .now) (a .ours .now) (a .theirs .now) (a .both .now) (a .mine .now) (a .yours .now) (swept .result) is room {m = swept .result} (swept .ensures .0) (swept .ensures .1 .0) (swept .ensures .1 .1 .0) in
-    (e .0, (e .1, (e .2, e .3)))
+    let most : ManyCounts = record { shared = all; ours = all; theirs = all } in
+    let there = sym (asked .before .lack-room .ensures) ∙ not-true _ (asked .if1 .taken) in
+    let room = room-for-fewer (swept .result) most (a .shared-out .now) (a .ours-out .now) (a .theirs-out .now) (few .shared) (few .ours-only) (few .theirs-only) there in
+    lists-answered (a .pool .now) (a .ours .now) (a .theirs .now) (a .shared-out .now) (a .ours-out .now) (a .theirs-out .now)
+    (swept .result) (counted (a .pool .now) (a .ours .now) (a .theirs .now) (swept .result) (swept .ensures)) room {m = swept .result} (swept .ensures)
 
 returns-2 : tie.Need-returns-2
 returns-2 c =
-    let a = c .before .before .before .before .before .before .before .before .before .before .before .before .before .before .before .before .before .args in
-    let n = c .before .before .before .before .before .count in
-    let e = room-refused (a .pool .now) (a .ours .now) (a .theirs .now) (a .both .now) (a .mine .now) (a .yours .now) (n .result) (n .ensures) (room-lacks (n .result) (a .both .now) (a .mine .now) (a .yours .now) (c .before .lack-room2 .ensures) (c .if2 .taken)) in
-    (rw e, (rw e, (rw e, rw e)))
+    let asked = c .before in
+    let counts = asked .before .before .before .before .before in
+    let a = counts .before .before .before .before .before .before .before .before .before .before .before .before .args in
+    let n = counts .count in
+    rw (c .refusal-of .ensures)
+    (lists-refused (a .pool .now) (a .ours .now) (a .theirs .now) (a .shared-out .now) (a .ours-out .now) (a .theirs-out .now) (n .result) (n .ensures)
+    (sym (asked .before .lack-room2 .ensures) ∙ asked .if2 .taken))
 
 returns-3 : tie.Need-returns-3
 returns-3 c =
-    let a = c .before .before .before .before .before .before .before .before .before .before .before .before .before .before .before .before .before .before .before .before .before .before .before .before .before .before .before .args in
-    let n = c .before .before .before .before .before .before .before .before .before .before .before .before .before .before .before .count in
-    let swept = c .before .before .before .before .before .before .sweep2 in
-    let there = room-there (n .result) (a .both .now) (a .mine .now) (a .yours .now) (c .before .before .before .before .before .before .before .before .before .before .before .lack-room2 .ensures) (c .before .before .before .before .before .before .before .before .before .before .if2 .left) in
-    let e = lists-answered (a .pool .now) (a .ours .now) (a .theirs .now) (a .both .now) (a .mine .now) (a .yours .now) (n .result) (n .ensures) there {m = swept .result} (swept .ensures .0) (swept .ensures .1 .0) (swept .ensures .1 .1 .0) in
-    (e .0, (e .1, (e .2, e .3)))
+    let pass = c .before .before .before .before .before .before in
+    let asked = pass .before .before .before .before in
+    let counts = asked .before .before .before .before .before in
+    let a = counts .before .before .before .before .before .before .before .before .before .before .before .before .args in
+    let n = counts .count in
+    lists-answered (a .pool .now) (a .ours .now) (a .theirs .now) (a .shared-out .now) (a .ours-out .now) (a .theirs-out .now)
+    (n .result) (n .ensures) (sym (asked .before .lack-room2 .ensures) ∙ asked .if2 .left) {m = pass .sweep2 .result} (pass .sweep2 .ensures)
 
 pub write-lists-spec : {M : Type 1} → statement M
 write-lists-spec =
@@ -49,6 +56,7 @@ write-lists-spec =
     (λ c. search needs)
     (λ c. search needs)
     returns
+    (λ c κs. search needs)
     (λ c κs. search needs)
     (λ c κs. search needs)
     (λ c. search needs)

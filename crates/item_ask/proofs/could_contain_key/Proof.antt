@@ -6,9 +6,6 @@ use Rattle.item_ask.proofs.Between.{containment-between}
 use Rattle.item_ask.proofs.could_contain_key.Statement.{statement}
 use Rattle.item_ask.proofs.could_contain_key.Tie as tie
 
-returns : tie.Need-returns
-returns c = rw (← c .before .before .before .check-item .ensures, c .before .r .given .1)
-
 returns-2 : tie.Need-returns-2
 returns-2 c =
     let check = c .before .before .before in
@@ -28,5 +25,5 @@ could-contain-key-spec =
     (λ c. search needs)
     (λ c. search needs)
     (λ c κs. search needs)
-    returns
+    (λ c. rw (← c .before .before .before .check-item .ensures, c .before .r .given .1))
     returns-2)

@@ -3,11 +3,10 @@ use borrow.Author.Needs.{needs}
 use Rattle.item_ask.proofs.to_range_set.Statement.{statement}
 use Rattle.item_ask.proofs.to_range_set.Tie as tie
 
-returns : tie.Need-returns
-returns c = rw (← c .before .before .before .check-item .ensures, c .before .r .given .1)
-
 returns-2 : tie.Need-returns-2
-returns-2 c = rw (← c .before .before .before .before .check-item .ensures, c .before .before .enum-told .given .1, c .to-range-set .ensures, c .before .query-item .ensures)
+returns-2 c =
+    let told = c .before .before in
+    rw (← told .before .before .check-item .ensures, told .enum-told .given .1, c .to-range-set .ensures, c .before .query-item .ensures)
 
 pub to-range-set-spec : {M : Type 1} → statement M
 to-range-set-spec =
@@ -18,5 +17,5 @@ to-range-set-spec =
     (λ c. search needs)
     (λ c κs. search needs)
     (λ c κs. search needs)
-    returns
+    (λ c. rw (← c .before .before .before .check-item .ensures, c .before .r .given .1))
     returns-2)

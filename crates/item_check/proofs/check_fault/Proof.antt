@@ -5,8 +5,10 @@ use borrow.Author.Needs.{needs}
 use Rattle.item_check.proofs.check_fault.Statement.{statement}
 use Rattle.item_check.proofs.check_fault.Tie as tie
 
-returns-2 : tie.Need-returns-2
-returns-2 c = c .refuse .ensures ∙ sym (fault-refused _ _ _ (c .before .if1 .left))
-
 pub check-fault-spec : {M : Type 1} → statement M
-check-fault-spec = tie.close (tie.spec (λ c. search needs) (λ c κs. search needs) returns-2)
+check-fault-spec =
+    tie.close
+    (tie.spec
+    (λ c. search needs)
+    (λ c κs. search needs)
+    (λ c. c .refuse .ensures ∙ sym (fault-refused _ _ _ (c .before .if1 .left))))

@@ -2,7 +2,7 @@
 -- how many are left. Assumes nothing.
 use Prim.Native.Nat.{_≤_, _-_}
 use mathlib.Core.Path.{_≡_, refl, sym, _∙_}
-use mathlib.Core.Bool.{true, false}
+use mathlib.Core.Bool.{false}
 use native.Mathlib.Nat.{sub-zero}
 use lib.Dec.{eqb}
 use borrow.Author.Needs.{needs}
@@ -25,11 +25,14 @@ loop-holds c = (search needs, rw sub-zero)
 
 returns : tie.Need-returns Inv-loop μ-loop
 returns c =
-    let sound = c .before .before .before .before in
-    let told : eqb (c .before .upright-fault .result) 0 ≡ false = rw (c .before .upright-fault .ensures, c .before .before .item-at .ensures, ← sound .sound-at .ensures) (not-true _ (c .before .before .before .if1 .taken)) in
+    let asked = c .before in
+    let sound = asked .before .before .before in
+    let told : eqb (asked .upright-fault .result) 0 ≡ false =
+    rw (asked .upright-fault .ensures, asked .before .item-at .ensures, ← sound .sound-at .ensures) (not-true _ (asked .before .before .if1 .taken)) in
     c .refuse .ensures
     ∙ sym (sound .before .before .loop .inv .1
-    ∙ bad-here _ _ _ _ _ (sound .before .loop-test .taken) (c .before .upright-fault .ensures ∙ rw (c .before .before .item-at .ensures)) (eqb-false _ _ told))
+    ∙ bad-here _ _ _ _ _ (sound .before .loop-test .taken) (asked .upright-fault .ensures ∙ rw (asked .before .item-at .ensures))
+    (eqb-false _ _ told))
 
 loop-again : tie.Need-loop-again Inv-loop μ-loop
 loop-again c =

@@ -5,8 +5,5 @@ use borrow.Author.Needs.{needs}
 use Rattle.item_check.proofs.check_pool.Statement.{statement}
 use Rattle.item_check.proofs.check_pool.Tie as tie
 
-returns : tie.Need-returns
-returns c = c .refuse .ensures ∙ search tests
-
 pub check-pool-spec : {M : Type 1} → statement M
-check-pool-spec = tie.close (tie.spec (λ c κs. search needs) returns (λ c. search tests))
+check-pool-spec = tie.close (tie.spec (λ c κs. search needs) (λ c. c .refuse .ensures ∙ search tests) (λ c. search tests))

@@ -4,7 +4,9 @@ use Rattle.item_check.proofs.is_malformed.Statement.{statement}
 use Rattle.item_check.proofs.is_malformed.Tie as tie
 
 returns : tie.Need-returns
-returns c = rw (c .before .before .before .has-start .ensures, c .before .before .is-written .ensures, c .before .has-end .ensures, c .is-written2 .ensures)
+returns c =
+    let start = c .before .before in
+    rw (start .before .has-start .ensures, start .is-nonzero .ensures, c .before .has-end .ensures, c .is-nonzero2 .ensures)
 
 pub is-malformed-spec : {M : Type 1} → statement M
 is-malformed-spec =

@@ -3,8 +3,5 @@ use borrow.Author.Needs.{needs}
 use Rattle.item_check.proofs.is_upright.Statement.{statement}
 use Rattle.item_check.proofs.is_upright.Tie as tie
 
-returns : tie.Need-returns
-returns c = c .at-most-in .ensures
-
 pub is-upright-spec : {M : Type 1} → statement M
-is-upright-spec = tie.close (tie.spec (λ c κs. search needs) returns)
+is-upright-spec = tie.close (tie.spec (λ c κs. search needs) (λ c. c .at-most-in .ensures))

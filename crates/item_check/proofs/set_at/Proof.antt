@@ -4,8 +4,11 @@ use borrow.Author.Needs.{needs}
 use Rattle.item_check.proofs.set_at.Statement.{statement}
 use Rattle.item_check.proofs.set_at.Tie as tie
 
-returns : tie.Need-returns
-returns c = c .to-range-set .ensures ∙ rw (c .before .query-item .ensures, c .before .before .item-at .ensures)
-
 pub set-at-spec : {M : Type 1} → statement M
-set-at-spec = tie.close (tie.spec (λ c κs. search needs) (λ c κs. search needs) (λ c κs. search needs) returns)
+set-at-spec =
+    tie.close
+    (tie.spec
+    (λ c κs. search needs)
+    (λ c κs. search needs)
+    (λ c κs. search needs)
+    (λ c. c .to-range-set .ensures ∙ rw (c .before .query-item .ensures, c .before .before .item-at .ensures)))

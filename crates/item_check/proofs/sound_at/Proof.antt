@@ -3,8 +3,10 @@ use borrow.Author.Needs.{needs}
 use Rattle.item_check.proofs.sound_at.Statement.{statement}
 use Rattle.item_check.proofs.sound_at.Tie as tie
 
-returns : tie.Need-returns
-returns c = rw (← c .before .item-at .ensures) (c .is-sound .ensures)
-
 pub sound-at-spec : {M : Type 1} → statement M
-sound-at-spec = tie.close (tie.spec (λ c κs. search needs) (λ c κs. search needs) returns)
+sound-at-spec =
+    tie.close
+    (tie.spec
+    (λ c κs. search needs)
+    (λ c κs. search needs)
+    (λ c. rw (← c .before .item-at .ensures) (c .is-sound .ensures)))

@@ -13,8 +13,11 @@ returns c = rw (c .enum-told .given .1) (refl, refl)
 returns-2 : tie.Need-returns-2
 unfolding putAll
 returns-2 c =
-    let args = c .before .before .before .before .before .before .before .before .before .args in
-    rw (c .before .before .before .before .before .before .item .given .1) (refl, c .before .before .write-item .ensures ∙ ap (withItem (args .out .now) (args .i)) (c .before .before .before .words-of .ensures))
+    let wrote = c .before .before in
+    let words = wrote .before in
+    let told = words .before .before .before in
+    let args = told .before .before .before .args in
+    rw (told .item .given .1) (refl, wrote .write-item .ensures ∙ ap (withItem (args .out .now) (args .i)) (words .words-of .ensures))
 
 pub put-item-spec : {M : Type 1} → statement M
 put-item-spec =

@@ -3,11 +3,11 @@ use borrow.Author.Needs.{needs}
 use Rattle.item_name.proofs.code_if.Statement.{statement}
 use Rattle.item_name.proofs.code_if.Tie as tie
 
-returns : tie.Need-returns
-returns c = rw (← c .before .before .compare .ensures, ← c .before .is-equal .ensures, c .if1 .taken)
-
-returns-2 : tie.Need-returns-2
-returns-2 c = rw (← c .before .before .compare .ensures, ← c .before .is-equal .ensures, c .if1 .left)
-
 pub code-if-spec : {M : Type 1} → statement M
-code-if-spec = tie.close (tie.spec (λ c κs. search needs) (λ c κs. search needs) returns returns-2)
+code-if-spec =
+    tie.close
+    (tie.spec
+    (λ c κs. search needs)
+    (λ c κs. search needs)
+    (λ c. rw (← c .before .before .compare .ensures, ← c .before .is-equal .ensures, c .if1 .taken))
+    (λ c. rw (← c .before .before .compare .ensures, ← c .before .is-equal .ensures, c .if1 .left)))

@@ -18,42 +18,6 @@ named : {code k r : ℕ} {m : List ℕ} (w : Bool) (l : List ℕ) (at : ℕ) →
     → (r ≡ length (nameOf code)) × (m ≡ stored w l at (nameOf code)) × (r ≤ 21)
 named w l at e h p = rw e (p .0, p .1, omega (arith, p .0))
 
-returns : tie.Need-returns
-unfolding nameOf
-returns c = named _ _ _ (c .before .before .before .before .before .match .keys1) (omega arith) (c .before .before .put-text .ensures)
-
-returns-2 : tie.Need-returns-2
-unfolding nameOf
-returns-2 c = named _ _ _ (c .before .before .before .before .before .match .keys2) (omega arith) (c .before .before .put-text2 .ensures)
-
-returns-3 : tie.Need-returns-3
-unfolding nameOf
-returns-3 c = named _ _ _ (c .before .before .before .before .before .match .keys3) (omega arith) (c .before .before .put-text3 .ensures)
-
-returns-4 : tie.Need-returns-4
-unfolding nameOf
-returns-4 c = named _ _ _ (c .before .before .before .before .before .match .keys4) (omega arith) (c .before .before .put-text4 .ensures)
-
-returns-5 : tie.Need-returns-5
-unfolding nameOf
-returns-5 c = named _ _ _ (c .before .before .before .before .before .match .keys5) (omega arith) (c .before .before .put-text5 .ensures)
-
-returns-6 : tie.Need-returns-6
-unfolding nameOf
-returns-6 c = named _ _ _ (c .before .before .before .before .before .match .keys6) (omega arith) (c .before .before .put-text6 .ensures)
-
-returns-7 : tie.Need-returns-7
-unfolding nameOf
-returns-7 c = named _ _ _ (c .before .before .before .before .before .match .keys7) (omega arith) (c .before .before .put-text7 .ensures)
-
-returns-8 : tie.Need-returns-8
-unfolding nameOf
-returns-8 c = named _ _ _ (c .before .before .before .before .before .match .keys8) (omega arith) (c .before .before .put-text8 .ensures)
-
-returns-9 : tie.Need-returns-9
-unfolding nameOf
-returns-9 c = named _ _ _ (c .before .before .before .before .before .match .keys9) (omega arith) (c .before .before .put-text9 .ensures)
-
 returns-10 : tie.Need-returns-10
 returns-10 c =
     let arm = c .before .before .before .before .before in
@@ -64,6 +28,7 @@ returns-10 c =
     (t .ensures .0, t .ensures .1, omega (arith, t .ensures .0))
 
 pub put-name-spec : {M : Type 1} → statement M
+unfolding nameOf
 put-name-spec =
     tie.close
     (tie.spec
@@ -88,22 +53,22 @@ put-name-spec =
     (λ c. search needs)
     (λ c κs. search needs)
     (λ c. search needs)
-    returns
+    (λ c. named _ _ _ (c .before .before .before .before .before .match .keys1) (omega arith) (c .before .before .put-text .ensures))
     (λ c. search needs)
-    returns-2
+    (λ c. named _ _ _ (c .before .before .before .before .before .match .keys2) (omega arith) (c .before .before .put-text2 .ensures))
     (λ c. search needs)
-    returns-3
+    (λ c. named _ _ _ (c .before .before .before .before .before .match .keys3) (omega arith) (c .before .before .put-text3 .ensures))
     (λ c. search needs)
-    returns-4
+    (λ c. named _ _ _ (c .before .before .before .before .before .match .keys4) (omega arith) (c .before .before .put-text4 .ensures))
     (λ c. search needs)
-    returns-5
+    (λ c. named _ _ _ (c .before .before .before .before .before .match .keys5) (omega arith) (c .before .before .put-text5 .ensures))
     (λ c. search needs)
-    returns-6
+    (λ c. named _ _ _ (c .before .before .before .before .before .match .keys6) (omega arith) (c .before .before .put-text6 .ensures))
     (λ c. search needs)
-    returns-7
+    (λ c. named _ _ _ (c .before .before .before .before .before .match .keys7) (omega arith) (c .before .before .put-text7 .ensures))
     (λ c. search needs)
-    returns-8
+    (λ c. named _ _ _ (c .before .before .before .before .before .match .keys8) (omega arith) (c .before .before .put-text8 .ensures))
     (λ c. search needs)
-    returns-9
+    (λ c. named _ _ _ (c .before .before .before .before .before .match .keys9) (omega arith) (c .before .before .put-text9 .ensures))
     (λ c. search needs)
     returns-10)

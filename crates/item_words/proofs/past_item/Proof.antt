@@ -7,15 +7,16 @@ use Rattle.item_words.proofs.past_item.Tie as tie
 
 returns : tie.Need-returns
 returns c =
-    let args = c .before .before .before .before .before .before .before .before .args in
+    let first = c .before .before .before .before .before in
+    let args = first .before .before .before .args in
     rw (
-      c .before .before .before .before .before .word-or-zero .ensures,
+      first .word-or-zero .ensures,
       c .before .before .before .before .word-or-zero2 .ensures,
       c .before .before .before .word-or-zero3 .ensures,
       c .before .before .word-or-zero4 .ensures,
       c .before .word-or-zero5 .ensures,
       c .word-or-zero6 .ensures,
-    ) (item-clipped (args .words .now) (args .i) (c .before .before .before .before .before .before .least .result) (c .before .before .before .before .before .before .least .ensures))
+    ) (item-clipped (args .words .now) (args .i) (first .before .least .result) (first .before .least .ensures))
 
 pub past-item-spec : {M : Type 1} → statement M
 past-item-spec =

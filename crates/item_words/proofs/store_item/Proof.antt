@@ -6,9 +6,6 @@ use borrow.Author.Needs.{needs}
 use Rattle.item_words.proofs.store_item.Statement.{statement}
 use Rattle.item_words.proofs.store_item.Tie as tie
 
-returns : tie.Need-returns
-returns c = simp towards-suc
-
 pub store-item-spec : {M : Type 1} → statement M
 store-item-spec =
     tie.close
@@ -32,4 +29,4 @@ store-item-spec =
     (λ c. search needs)
     (λ c. simp length-set (omega arith))
     (λ c. search needs)
-    returns)
+    (λ c. simp towards-suc))

@@ -5,8 +5,11 @@ use borrow.Author.Needs.{needs}
 use Rattle.item_words.proofs.word_or_zero.Statement.{statement}
 use Rattle.item_words.proofs.word_or_zero.Tie as tie
 
-returns-2 : tie.Need-returns-2
-returns-2 c = sym (List·getD-eq-default (c .before .args .words .now) 0 (c .if1 .left))
-
 pub word-or-zero-spec : {M : Type 1} → statement M
-word-or-zero-spec = tie.close (tie.spec (λ c. search needs) (λ c. search needs) (λ c. search needs) returns-2)
+word-or-zero-spec =
+    tie.close
+    (tie.spec
+    (λ c. search needs)
+    (λ c. search needs)
+    (λ c. search needs)
+    (λ c. sym (List·getD-eq-default (c .before .args .words .now) 0 (c .if1 .left))))

@@ -8,10 +8,16 @@ use Rattle.key_text.proofs.put_key_text.Statement.{statement}
 use Rattle.key_text.proofs.put_key_text.Tie as tie
 
 returns : tie.Need-returns
-returns c = rw (key-none (now (c .before .before .before .before .before .before .before .args .key)) (c .before .before .before .before .if1 .taken)) (refl, c .before .before .put-past .ensures, omega arith)
+returns c =
+    let called = c .before .before in
+    rw (key-none (now (called .before .before .before .before .before .args .key)) (called .before .before .if1 .taken))
+    (refl, called .put-past .ensures, omega arith)
 
 returns-2 : tie.Need-returns-2
-returns-2 c = rw (key-some (now (c .before .before .before .before .before .before .before .args .key)) (omega (arith, c .before .before .before .before .if1 .left))) (c .before .before .put-hex .ensures)
+returns-2 c =
+    let called = c .before .before in
+    rw (key-some (now (called .before .before .before .before .before .args .key)) (omega (arith, called .before .before .if1 .left)))
+    (called .put-hex .ensures)
 
 pub put-key-text-spec : {M : Type 1} → statement M
 put-key-text-spec =

@@ -9,13 +9,18 @@ read-lists-requires : tie.Need-read-lists-requires
 read-lists-requires c κs = sym (c .before .before .before .is-well-formed .ensures) ∙ c .before .before .if1 .taken
 
 returns : tie.Need-returns
-returns c = (
-  rw (← c .before .before .before .before .before .before .before .before .is-well-formed .ensures, c .before .before .before .before .before .before .before .if1 .taken) (c .before .before .before .before .read-lists .ensures .0),
-  (rw (← c .before .before .before .before .before .before .before .before .is-well-formed .ensures, c .before .before .before .before .before .before .before .if1 .taken) (c .before .before .before .before .read-lists .ensures .1 .0), rw (← c .before .before .before .before .before .before .before .before .is-well-formed .ensures, c .before .before .before .before .before .before .before .if1 .taken) (c .before .before .before .before .read-lists .ensures .1 .1)),
-)
+returns c =
+    let read = c .before .before .before .before in
+    let test = read .before .before .before in
+    let formed = test .before .is-well-formed .ensures in
+    let lists = read .read-lists .ensures in
+    (rw (← formed, test .if1 .taken) (lists .0), (rw (← formed, test .if1 .taken) (lists .1 .0), rw (← formed, test .if1 .taken) (lists .1 .1)))
 
 returns-2 : tie.Need-returns-2
-returns-2 c = (rw (← c .before .is-well-formed .ensures, c .if1 .left), (rw (← c .before .is-well-formed .ensures, c .if1 .left), rw (← c .before .is-well-formed .ensures, c .if1 .left)))
+returns-2 c =
+    let test = c .before in
+    let formed = test .before .is-well-formed .ensures in
+    (rw (c .refusal-of .ensures, ← formed, test .if1 .left), (rw (← formed, test .if1 .left), rw (← formed, test .if1 .left)))
 
 pub read-file-spec : {M : Type 1} → statement M
 read-file-spec =
@@ -26,4 +31,5 @@ read-file-spec =
     (λ c. search needs)
     (λ c. search needs)
     returns
+    (λ c κs. search needs)
     returns-2)

@@ -8,11 +8,12 @@ use Rattle.krl_file.proofs.read_lists.Tie as tie
 
 returns : tie.Need-returns
 returns c =
-    let parts = c .before .before .before .before .before in
+    let asked = c .before in
+    let parts = asked .before .before .before .before .before in
     let start = parts .before .before .before .before in
     let e = room-refused (start .args .file .now) (start .args .ours .now) (start .args .theirs .now) (parts .parts-of .ensures)
-    (c .before .before .before .passes-room .ensures) (c .before .passes-room2 .ensures) (c .if1 .taken) in
-    (rw e, (rw e, rw e))
+    (asked .before .before .before .passes-room .ensures) (asked .before .passes-room2 .ensures) (asked .if1 .taken) in
+    (rw (c .refusal-of .ensures, e), (rw e, rw e))
 
 add-at : tie.Need-add-at
 add-at c =
@@ -43,25 +44,32 @@ add-write-records c =
 
 write-records-requires-2 : tie.Need-write-records-requires-2
 write-records-requires-2 c κs =
-    let parts = c .before .before .before .before .before .before .before .before .before .before .before .before in
+    let asked = c .before .before .before .before .before .before .before in
+    let parts = asked .before .before .before .before .before in
     let start = parts .before .before .before .before in (
       omega (arith, parts-fit (start .args .file .now) (parts .parts-of .ensures) (start .pre)),
       theirs-fit (start .args .file .now) (start .args .ours .now) (start .args .theirs .now) (parts .parts-of .ensures)
-          (c .before .before .before .before .before .before .before .before .before .before .passes-room .ensures) (c .before .before .before .before .before .before .before .before .passes-room2 .ensures) (c .before .before .before .before .before .before .before .if1 .left),
+          (asked .before .before .before .passes-room .ensures) (asked .before .passes-room2 .ensures) (asked .if1 .left),
     )
 
 returns-2 : tie.Need-returns-2
 returns-2 c =
-    let parts = c .before .before .before .before .before .before .before .before .before .before .before .before .before .before .before in
+    let theirs = c .before .before in
+    let ours = theirs .before .before .before .before .before in
+    let asked = ours .before .before .before in
+    let parts = asked .before .before .before .before .before in
     let start = parts .before .before .before .before in
-    let e = room-answered (start .args .file .now) (start .args .ours .now) (start .args .theirs .now) (parts .parts-of .ensures)
-    (c .before .before .before .before .before .before .before .before .before .before .before .before .before .passes-room .ensures) (c .before .before .before .before .before .before .before .before .before .before .before .passes-room2 .ensures) (c .before .before .before .before .before .before .before .before .before .before .if1 .left) in
-    (rw e, (rw e (ours-laid (start .args .file .now) (parts .parts-of .ensures) (start .args .ours .now) (c .before .before .before .before .before .before .before .write-records .ensures)), rw e (theirs-laid (start .args .file .now) (parts .parts-of .ensures) (start .args .theirs .now) (c .before .before .write-records2 .ensures))))
+    let file = start .args .file .now in
+    let is = parts .parts-of .ensures in
+    let e = room-answered file (start .args .ours .now) (start .args .theirs .now) is
+    (asked .before .before .before .passes-room .ensures) (asked .before .passes-room2 .ensures) (asked .if1 .left) in
+    (rw e, (rw e (ours-laid file is (start .args .ours .now) (ours .write-records .ensures)), rw e (theirs-laid file is (start .args .theirs .now) (theirs .write-records2 .ensures))))
 
 pub read-lists-spec : {M : Type 1} → statement M
 read-lists-spec =
     tie.close
     (tie.spec
+    (λ c κs. search needs)
     (λ c κs. search needs)
     (λ c κs. search needs)
     (λ c κs. search needs)

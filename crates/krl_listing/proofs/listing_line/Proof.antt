@@ -10,23 +10,29 @@ use Rattle.krl_listing.proofs.listing_line.Tie as tie
 
 returns : tie.Need-returns
 returns c =
-    let a = c .before .before .before .before .before .before .before .before .before .before .before .args in
-    rw (line-shared (now (a .pool)) (now (a .both)) (now (a .mine)) (now (a .yours)) (a .counts) (a .i) (c .before .before .before .before .before .if1 .taken)) (c .before .before .put-of-list .ensures)
+    let asked = c .before .before .before .before .before in
+    let a = asked .before .before .before .before .before .before .args in
+    rw (line-shared (now (a .pool)) (now (a .shared-out)) (now (a .ours-out)) (now (a .theirs-out)) (a .counts) (a .i) (asked .if1 .taken)) (c .before .before .put-of-list .ensures)
 
 returns-2 : tie.Need-returns-2
 returns-2 c =
-    let a = c .before .before .before .before .before .before .before .before .before .before .before .before .args in
-    rw (line-ours (now (a .pool)) (now (a .both)) (now (a .mine)) (now (a .yours)) (a .counts) (a .i) (c .before .before .before .before .before .before .if1 .left) (c .before .before .before .before .before .if2 .taken)) (c .before .before .put-of-list2 .ensures)
+    let asked = c .before .before .before .before .before in
+    let a = asked .before .before .before .before .before .before .before .args in
+    rw (line-ours (now (a .pool)) (now (a .shared-out)) (now (a .ours-out)) (now (a .theirs-out)) (a .counts) (a .i)
+    (asked .before .if1 .left) (asked .if2 .taken)) (c .before .before .put-of-list2 .ensures)
 
 returns-3 : tie.Need-returns-3
 returns-3 c =
-    let a = c .before .before .before .before .before .before .before .before .before .before .before .before .before .args in
-    rw (line-theirs (now (a .pool)) (now (a .both)) (now (a .mine)) (now (a .yours)) (a .counts) (a .i) (c .before .before .before .before .before .before .before .if1 .left) (c .before .before .before .before .before .before .if2 .left)) (c .before .before .put-of-list3 .ensures)
+    let asked = c .before .before .before .before .before .before in
+    let a = asked .before .before .before .before .before .before .before .args in
+    rw (line-theirs (now (a .pool)) (now (a .shared-out)) (now (a .ours-out)) (now (a .theirs-out)) (a .counts) (a .i)
+    (asked .before .if1 .left) (asked .if2 .left)) (c .before .before .put-of-list3 .ensures)
 
 returns-4 : tie.Need-returns-4
 returns-4 c =
     let a = c .before .before .before .before .before .before .before .before .args in
-    rw (line-none (now (a .pool)) (now (a .both)) (now (a .mine)) (now (a .yours)) (a .counts) (a .i) (c .before .before .if1 .left) (c .before .if2 .left) (c .if3 .left)) (refl, sym (stored-none true (now (a .out)) 0))
+    rw (line-none (now (a .pool)) (now (a .shared-out)) (now (a .ours-out)) (now (a .theirs-out)) (a .counts) (a .i) (c .before .before .if1 .left) (c .before .if2 .left) (c .if3 .left))
+    (refl, sym (stored-none true (now (a .out)) 0))
 
 pub listing-line-spec : {M : Type 1} → statement M
 listing-line-spec =

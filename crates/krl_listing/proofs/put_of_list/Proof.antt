@@ -13,8 +13,14 @@ returns c =
 
 returns-2 : tie.Need-returns-2
 returns-2 c =
-    let a = c .before .before .before .before .before .before .before .before .before .before .before .args in
-    item-stored (now (a .pool)) (now (a .title)) (now (a .words)) (a .count) (a .i) (c .before .before .before .before .before .before .if1 .left) (c .before .before .before .before .before .before .before .before .before .before .before .pre .1) true (now (a .out)) (c .before .before .put-item .last .0) (c .before .before .put-item .result) (c .before .before .before .before .item-at .result) (c .before .before .before .query-item .result) (c .before .before .before .before .item-at .ensures) (c .before .before .before .query-item .ensures) (c .before .before .put-item .ensures)
+    let put = c .before .before in
+    let read = put .before .before in
+    let later = read .before .before in
+    let start = later .before .before .before .before .before in
+    let a = start .args in
+    item-stored (now (a .pool)) (now (a .title)) (now (a .words)) (a .count) (a .i) (later .if1 .left) (start .pre .1) true (now (a .out))
+    (put .put-item .last .0) (put .put-item .result) (read .item-at .result) (put .before .query-item .result)
+    (read .item-at .ensures) (put .before .query-item .ensures) (put .put-item .ensures)
 
 pub put-of-list-spec : {M : Type 1} → statement M
 put-of-list-spec =

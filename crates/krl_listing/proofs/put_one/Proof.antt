@@ -11,11 +11,15 @@ use Rattle.krl_listing.proofs.put_one.Tie as tie
 
 returns : tie.Need-returns
 returns c =
-    let a = c .before .before .before .before .before .before .before .before .before .before .before .before .before .before .before .args in
-    let t = c .before .before .before .before .before .before .before .before .before .before .put-text in
-    let k = c .before .before .before .before .before .before .put-key in
-    let p = c .before .before .put in
-    stored-three true (now (a .out)) (t .last .0) (k .last .0) (p .last .0) (t .result) (k .result) 1 (now (a .name)) (spacedKey (now (a .pool)) (a .key)) lineFeed (t .ensures .1) (t .ensures .0) (k .ensures .1) (k .ensures .0) (p .ensures) refl
+    let fed = c .before .before in
+    let keyed = fed .before .before .before .before in
+    let named = keyed .before .before .before .before in
+    let a = named .before .before .before .before .before .args in
+    let t = named .put-text in
+    let k = keyed .put-key in
+    let p = fed .put in
+    stored-three true (now (a .out)) (t .last .0) (k .last .0) (p .last .0) (t .result) (k .result) 1
+    (now (a .name)) (spacedKey (now (a .pool)) (a .key)) lineFeed (t .ensures .1) (t .ensures .0) (k .ensures .1) (k .ensures .0) (p .ensures) refl
 
 pub put-one-spec : {M : Type 1} → statement M
 put-one-spec =

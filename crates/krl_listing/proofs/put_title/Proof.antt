@@ -11,11 +11,15 @@ use Rattle.krl_listing.proofs.put_title.Tie as tie
 
 returns : tie.Need-returns
 returns c =
-    let a = c .before .before .before .before .before .before .before .before .before .before .before .before .before .before .args in
-    let t = c .before .before .before .before .before .before .before .before .before .before .put-text in
-    let n = c .before .before .before .before .before .before .put-spaced in
-    let p = c .before .before .put in
-    stored-three true (now (a .out)) (t .last .0) (n .last .0) (p .last .0) (t .result) (n .result) 1 (now (a .title)) (spacedNumber (a .count)) lineFeed (t .ensures .1) (t .ensures .0) (n .ensures .1) (n .ensures .0) (p .ensures) refl
+    let fed = c .before .before in
+    let counted = fed .before .before .before .before in
+    let named = counted .before .before .before .before in
+    let a = named .before .before .before .before .args in
+    let t = named .put-text in
+    let n = counted .put-spaced in
+    let p = fed .put in
+    stored-three true (now (a .out)) (t .last .0) (n .last .0) (p .last .0) (t .result) (n .result) 1
+    (now (a .title)) (spacedNumber (a .count)) lineFeed (t .ensures .1) (t .ensures .0) (n .ensures .1) (n .ensures .0) (p .ensures) refl
 
 pub put-title-spec : {M : Type 1} → statement M
 put-title-spec =

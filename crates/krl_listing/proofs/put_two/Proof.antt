@@ -11,12 +11,18 @@ use Rattle.krl_listing.proofs.put_two.Tie as tie
 
 returns : tie.Need-returns
 returns c =
-    let a = c .before .before .before .before .before .before .before .before .before .before .before .before .before .before .before .before .before .before .before .args in
-    let t = c .before .before .before .before .before .before .before .before .before .before .before .before .before .before .put-text in
-    let k = c .before .before .before .before .before .before .before .before .before .before .put-key in
-    let e = c .before .before .before .before .before .before .put-key2 in
-    let p = c .before .before .put in
-    stored-four true (now (a .out)) (t .last .0) (k .last .0) (e .last .0) (p .last .0) (t .result) (k .result) (e .result) 1 (now (a .name)) (spacedKey (now (a .pool)) (a .start)) (spacedKey (now (a .pool)) (a .end)) lineFeed (t .ensures .1) (t .ensures .0) (k .ensures .1) (k .ensures .0) (e .ensures .1) (e .ensures .0) (p .ensures) refl
+    let fed = c .before .before in
+    let ended = fed .before .before .before .before in
+    let started = ended .before .before .before .before in
+    let named = started .before .before .before .before in
+    let a = named .before .before .before .before .before .args in
+    let t = named .put-text in
+    let k = started .put-key in
+    let e = ended .put-key2 in
+    let p = fed .put in
+    stored-four true (now (a .out)) (t .last .0) (k .last .0) (e .last .0) (p .last .0) (t .result) (k .result) (e .result) 1
+    (now (a .name)) (spacedKey (now (a .pool)) (a .start)) (spacedKey (now (a .pool)) (a .end)) lineFeed
+    (t .ensures .1) (t .ensures .0) (k .ensures .1) (k .ensures .0) (e .ensures .1) (e .ensures .0) (p .ensures) refl
 
 pub put-two-spec : {M : Type 1} → statement M
 put-two-spec =

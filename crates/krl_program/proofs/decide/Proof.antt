@@ -38,19 +38,19 @@ returns c =
     let f = read .read-file in
     let m = lists .intersect-many-ordered in
     let answered = sym (rw (parts .parts .given .1) at (f .ensures .0)) in
-    decided-read (now (a .file)) (now (a .ours)) (now (a .theirs)) (now (a .both)) (now (a .mine)) (now (a .yours)) (start .pre) _ answered _ _ _
+    decided-read (now (a .file)) (now (a .ours)) (now (a .theirs)) (now (a .shared-out)) (now (a .ours-out)) (now (a .theirs-out)) (start .pre) _ answered _ _ _
     (pool .pool-of .ensures)
     (ours .front .ensures ∙ ours-are (now (a .file)) (now (a .ours)) (now (a .theirs)) _ answered (f .last .1 .0) (f .ensures .1 .0))
     (theirs .front2 .ensures ∙ theirs-are (now (a .file)) (now (a .ours)) (now (a .theirs)) _ answered (f .last .1 .1 .0) (f .ensures .1 .1))
     (m .result) (m .last .1 .1 .1 .0) (m .last .1 .1 .1 .1 .0) (m .last .1 .1 .1 .1 .1 .0)
-    (m .ensures .0) (m .ensures .1 .0) (m .ensures .1 .1 .0) (m .ensures .1 .1 .1)
+    (m .ensures)
 
 returns-2 : tie.Need-returns-2
 returns-2 c =
     let read = c .before .before .before .before .before .before .before in
     let start = read .before .before .before .before .before .before .before .before .before in
     let a = start .args in
-    decided-refused (now (a .file)) (now (a .ours)) (now (a .theirs)) (now (a .both)) (now (a .mine)) (now (a .yours)) (start .pre) _
+    decided-refused (now (a .file)) (now (a .ours)) (now (a .theirs)) (now (a .shared-out)) (now (a .ours-out)) (now (a .theirs-out)) (start .pre) _
     (sym (rw (c .before .refusal .given .1) at (read .read-file .ensures .0)))
 
 pub decide-spec : {M : Type 1} → statement M

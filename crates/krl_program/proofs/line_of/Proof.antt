@@ -10,7 +10,7 @@ returns c =
     let start = c .before .before .before .before .before .before .before .before .before .before .before .before .before in
     let a = start .args in
     let l = c .before .before .listing-line in
-    line-listed (now (a .file)) (now (a .both)) (now (a .mine)) (now (a .yours)) _ (a .i) (now (a .line)) (l .last .0) (l .result)
+    line-listed (now (a .file)) (now (a .shared-out)) (now (a .ours-out)) (now (a .theirs-out)) _ (a .i) (now (a .line)) (l .last .0) (l .result)
     (rw (c .before .before .before .before .before .before .answer .given .1) at (start .pre)) (rw (c .before .before .before .pool-of .ensures) at (l .ensures)) (l .kept .0)
 
 returns-2 : tie.Need-returns-2
@@ -18,7 +18,7 @@ returns-2 c =
     let start = c .before .before .before .before .before .before .before .before .before .before .before .before in
     let a = start .args in
     let l = c .before .before .refusal-line in
-    line-refused (now (a .file)) (now (a .both)) (now (a .mine)) (now (a .yours)) _ (a .i) (now (a .line)) (l .last .0) (l .result)
+    line-refused (now (a .file)) (now (a .shared-out)) (now (a .ours-out)) (now (a .theirs-out)) _ (a .i) (now (a .line)) (l .last .0) (l .result)
     (rw (c .before .before .before .before .before .answer2 .given .1) at (start .pre)) (l .ensures) (l .kept .0)
 
 pub line-of-spec : {M : Type 1} → statement M

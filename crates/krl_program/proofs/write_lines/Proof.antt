@@ -13,22 +13,22 @@ use Rattle.krl_program.proofs.write_lines.Statement.{statement}
 use Rattle.krl_program.proofs.write_lines.Tie as tie
 
 abbrev Inv-loop : tie.InvT-loop
-Inv-loop file both mine yours answer line₀ lines i₀ line i = (mostLine ≤ length line) × (i ≤ lines)
+Inv-loop file sharedOut oursOut theirsOut answer line₀ lines i₀ line i = (mostLine ≤ length line) × (i ≤ lines)
 
 abbrev μ-loop : tie.MeasureT-loop
-μ-loop file both mine yours answer line₀ lines i₀ line i = lines - i
+μ-loop file sharedOut oursOut theirsOut answer line₀ lines i₀ line i = lines - i
 
 count-lines-requires : tie.Need-count-lines-requires Inv-loop μ-loop
 count-lines-requires c κs =
     let start = c .before .before .before .before .before .before in
     let a = start .args in
-    lines-counted (now (a .file)) (now (a .both)) (now (a .mine)) (now (a .yours)) (a .answer) (start .pre) .1
+    lines-counted (now (a .file)) (now (a .shared-out)) (now (a .ours-out)) (now (a .theirs-out)) (a .answer) (start .pre) .1
 
 line-of-requires : tie.Need-line-of-requires Inv-loop μ-loop
 line-of-requires c κs =
     let start = c .before .before .before .before .before .before .before .before .before .before in
     let a = start .args in
-    let all = lines-counted (now (a .file)) (now (a .both)) (now (a .mine)) (now (a .yours)) (a .answer) (start .pre) .0 in
+    let all = lines-counted (now (a .file)) (now (a .shared-out)) (now (a .ours-out)) (now (a .theirs-out)) (a .answer) (start .pre) .0 in
     record {
       decided = start .pre;
       there = omega (arith, c .before .loop-test .taken, c .before .before .before .count-lines .ensures, all);
@@ -45,7 +45,7 @@ returns-2 : tie.Need-returns-2 Inv-loop μ-loop
 returns-2 c =
     let start = c .before .before .before .before .before .before .before .before .before .before in
     let a = start .args in
-    let all = lines-counted (now (a .file)) (now (a .both)) (now (a .mine)) (now (a .yours)) (a .answer) (start .pre) .0 in
+    let all = lines-counted (now (a .file)) (now (a .shared-out)) (now (a .ours-out)) (now (a .theirs-out)) (a .answer) (start .pre) .0 in
     omega (arith, c .before .before .before .count-lines .ensures, all)
 
 pub write-lines-spec : {M : Type 1} → statement M

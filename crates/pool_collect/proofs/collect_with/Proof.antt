@@ -20,7 +20,11 @@ gather-both-requires c κs =
     }
 
 returns : tie.Need-returns
-returns c = let found = c .before in collects-none _ _ _ _ (found .before .before .before .before .before .before .before .before .before .before .pre) (found .gather-both .ensures .1) (c .if1 .taken)
+returns c =
+    let test = c .before in
+    let found = test .before in
+    let start = found .before .before .before .before .before .before .before .before .before .before in
+    rw (c .refusal-of .ensures) (collects-none _ _ _ _ (start .pre) (found .gather-both .ensures .1) (test .if1 .taken))
 
 write-all-requires : tie.Need-write-all-requires
 write-all-requires c κs =
@@ -41,13 +45,15 @@ returns-2 c =
     let done = c .before .before .before .before .before .before in
     let test = done .before .before .before .before .before .before .before .before in
     let found = test .before in
-    collects-all _ _ _ _ (found .before .before .before .before .before .before .before .before .before .before .pre) (found .gather-both .ensures .1) (test .if1 .left) (done .write-all .ensures)
+    let start = found .before .before .before .before .before .before .before .before .before .before in
+    collects-all _ _ _ _ (start .pre) (found .gather-both .ensures .1) (test .if1 .left) (done .write-all .ensures)
 
 pub collect-with-spec : {M : Type 1} → statement M
 collect-with-spec =
     tie.close
     (tie.spec
     gather-both-requires
+    (λ c κs. search needs)
     (λ c. search needs)
     (λ c. search needs)
     returns

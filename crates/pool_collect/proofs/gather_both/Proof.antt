@@ -17,7 +17,8 @@ returns : tie.Need-returns
 returns c =
     let second = c .before .before .before .before .before .before in
     let first = second .before .before .before .before .before .before .before .before .before .before in
-    completes _ _ _ _ _ _ (first .before .before .before .before .before .before .before .before .before .before .pre) (first .gather-list .ensures) (second .gather-list2 .ensures)
+    let start = first .before .before .before .before .before .before .before .before .before .before in
+    completes _ _ _ _ _ _ (start .pre) (first .gather-list .ensures) (second .gather-list2 .ensures)
 
 pub gather-both-spec : {M : Type 1} → statement M
 gather-both-spec =

@@ -8,10 +8,14 @@ pack-requires : tie.Need-pack-requires
 pack-requires c κs = pack-ready _ _ _ _ _ _ _ (c .before .before .before .before .before .before .before .pre)
 
 rewrite-list-requires : tie.Need-rewrite-list-requires
-rewrite-list-requires c κs = noted-ours _ _ _ _ _ _ _ (c .before .before .before .before .before .before .before .before .before .before .before .pre)
+rewrite-list-requires c κs =
+    let packed = c .before .before .before in
+    noted-ours _ _ _ _ _ _ _ (packed .before .before .before .before .before .before .before .before .pre)
 
 rewrite-list-requires-2 : tie.Need-rewrite-list-requires-2
-rewrite-list-requires-2 c κs = noted-theirs _ _ _ _ _ _ _ (c .before .before .before .before .before .before .before .before .before .before .before .before .before .before .before .pre)
+rewrite-list-requires-2 c κs =
+    let packed = c .before .before .before .before .before .before .before in
+    noted-theirs _ _ _ _ _ _ _ (packed .before .before .before .before .before .before .before .before .pre)
 
 returns : tie.Need-returns
 returns c =

@@ -28,11 +28,14 @@ returns-2 c =
 
 returns-3 : tie.Need-returns-3
 returns-3 c =
-    let a = c .before .before .before .before .before .before .before .before .before .before .before .before .args in
-    let p = c .before .before .before .before .before .before .before .put-report in
+    let at-if2 = c .before .before .before .before in
+    let at-put-report = at-if2 .before .before .before in
+    let at-if1 = at-put-report .before .before in
+    let a = at-if1 .before .before .before .args in
+    let p = at-put-report .put-report in
     let q = c .before .before .put-report2 in
-    let t = le-ltb mostReported (a .report .count) (c .before .before .before .before .before .before .before .before .before .if1 .left) in
-    let n : length (textOf (a .report)) ≤ length (now (a .out)) = omega (arith, p .kept .0, p .ensures .0, c .before .before .before .before .if2 .left) in
+    let t = le-ltb mostReported (a .report .count) (at-if1 .if1 .left) in
+    let n : length (textOf (a .report)) ≤ length (now (a .out)) = omega (arith, p .kept .0, p .ensures .0, at-if2 .if2 .left) in
     let u = le-ltb (length (now (a .out))) (length (textOf (a .report))) n in
     let same = p .ensures .1 ∙ stored-never (now (a .out)) 0 (textOf (a .report)) in (
       rw (t, u, q .ensures .0),

@@ -13,11 +13,14 @@ use Rattle.position_describe.proofs.put_first.Tie as tie
 returns : tie.Need-returns
 unfolding firstPart
 returns c =
-    let a = c .before .before .before .before .before .before .before .before .before .before .before .args in
-    let t = c .before .before .before .before .before .before .put-text in
+    let at-put-text = c .before .before .before .before .before .before in
+    let at-if1 = at-put-text .before .before .before in
+    let a = at-if1 .before .before .args in
+    let t = at-put-text .put-text in
     let n = c .before .before .put-number in
-    let both = stored-next (a .write) (now (a .out)) (t .last .0) (n .last .0) (a .at) (t .result) (n .result) firstWord (decimal (a .count)) (t .ensures .1) (t .ensures .0) (n .ensures .1) (n .ensures .0) in
-    rw (lt-ltb (a .count) (a .total) (c .before .before .before .before .before .before .before .before .before .if1 .taken)) (both .0, both .1, omega (arith, t .ensures .0, n .ensures .2))
+    let both = stored-next (a .write) (now (a .out)) (t .last .0) (n .last .0) (a .at) (t .result) (n .result) firstWord (decimal (a .count))
+    (t .ensures .1) (t .ensures .0) (n .ensures .1) (n .ensures .0) in
+    rw (lt-ltb (a .count) (a .total) (at-if1 .if1 .taken)) (both .0, both .1, omega (arith, t .ensures .0, n .ensures .2))
 
 returns-2 : tie.Need-returns-2
 unfolding firstPart

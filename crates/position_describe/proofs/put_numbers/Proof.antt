@@ -34,10 +34,14 @@ loop-holds c =
 
 loop-again : tie.Need-loop-again Inv-loop μ-loop
 loop-again c =
-    let l = c .before .before .before .before .before .loop in
-    let a = c .before .before .before .before .before .before .before .before .before .before .before .before .before .args in
+    let at-loop-test = c .before .before .before .before in
+    let at-loop = at-loop-test .before in
+    let start = at-loop .before .before .before .before .before .before .before .before in
+    let l = at-loop .loop in
+    let a = start .args in
     let p = c .before .before .put-later in
-    let t = left-turn (a .write) (l .out) (p .last .0) (a .report .examples) (a .report .count) (l .i) (a .at) (l .n) (p .result) (c .before .before .before .before .loop-test .taken) (l .inv .4) (p .ensures .0) (p .ensures .1) in
+    let t = left-turn (a .write) (l .out) (p .last .0) (a .report .examples) (a .report .count) (l .i) (a .at) (l .n) (p .result)
+    (at-loop-test .loop-test .taken) (l .inv .4) (p .ensures .0) (p .ensures .1) in
     (omega arith, p .kept .0 ∙ l .inv .1, omega (arith, p .ensures .2), l .inv .3, l .inv .4, t .0 ∙ l .inv .5, t .1 ∙ l .inv .6)
 
 same-length : tie.Need-same-length Inv-loop μ-loop
@@ -45,10 +49,12 @@ same-length c = c .before .loop .inv .1 ∙ c .before .before .before .before .p
 
 returns-2 : tie.Need-returns-2 Inv-loop μ-loop
 returns-2 c =
+    let at-put-number = c .before .before .before .before in
     let l = c .before .loop in
-    let a = c .before .before .before .before .before .before .before .before .before .args in
-    let f = c .before .before .before .before .put-number in
-    let all = left-whole (a .write) (now (a .out)) (f .last .0) (l .out) (a .report) (a .at) (f .result) (l .n) (l .i) (omega arith) (l .inv .4) (c .loop-test .left) (f .ensures .0) (f .ensures .1) (l .inv .5) (l .inv .6) in
+    let a = at-put-number .before .before .before .before .before .args in
+    let f = at-put-number .put-number in
+    let all = left-whole (a .write) (now (a .out)) (f .last .0) (l .out) (a .report) (a .at) (f .result) (l .n) (l .i) (omega arith) (l .inv .4)
+    (c .loop-test .left) (f .ensures .0) (f .ensures .1) (l .inv .5) (l .inv .6) in
     (all .0, all .1, omega arith)
 
 pub put-numbers-spec : {M : Type 1} → statement M

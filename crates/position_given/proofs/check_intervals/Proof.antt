@@ -14,7 +14,7 @@ returns-2 c =
     let counted = c .before .before .before in
     let even = counted .before in
     rw (← even .before .before .check-even .ensures, even .enum-told .given .1)
-    (rows-refused _ _ _ _ (sym (ap lengthOf (c .before .r2 .given .1)) ∙ counted .count-rows .ensures))
+    (rows-refused _ _ (sym (ap lengthOf (c .before .r2 .given .1)) ∙ counted .count-rows .ensures))
 
 returns-3 : tie.Need-returns-3
 returns-3 c =

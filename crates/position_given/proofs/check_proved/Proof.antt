@@ -9,7 +9,7 @@ use Rattle.position_given.proofs.check_proved.Tie as tie
 returns : tie.Need-returns
 returns c =
     let args = c .before .before .before .before .before .before .args in
-    sym (intervals-first (args .intervals .now) (args .proved .now) _ _ _ (sym (c .before .before .before .check-intervals .ensures) ∙ ap verdictOf (c .before .r .given .1)))
+    sym (intervals-first (args .intervals .now) (args .proved .now) _ (sym (c .before .before .before .check-intervals .ensures) ∙ ap verdictOf (c .before .r .given .1)))
 
 returns-2 : tie.Need-returns-2
 returns-2 c = rw (← c .before .before .before .check-intervals .ensures, c .before .enum-told .given .1) (c .check-ascending .ensures)

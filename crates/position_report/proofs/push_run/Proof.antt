@@ -2,7 +2,7 @@
 use Prim.Native.Nat.{_-_}
 use native.Mathlib.Omega.{arith}
 use denote.Ref.{now}
-use Rattle.position_report.specs.Inner.{reportAt}
+use Rattle.position_report.specs.Reports.{reportAt}
 use Rattle.position_report.proofs.Runs.{run-empty}
 use borrow.Author.Needs.{needs}
 use Rattle.position_report.proofs.push_run.Statement.{statement}

@@ -25,9 +25,11 @@ use ghost.Atoms.{Atoms, sem}
 use contract.Lifetimes.{Lfts}
 use contract.Monad.{Fun, fact}
 use contract.Running.{givenOf, tables, tablesOf}
-use types.Kit.{Given, Item, given, learn, ‵, raw, _⊛_, ⋆, some, later, runs, anyQ, atRet, Sq, _$_, _∵_, !, qed, by, move, keep, drop, use1, use2, use3, split, join, pick, rewrite, fsplit, fjoin, suffices, frame, await, done}
+use types.Kit.{Given, Item, given, learn, ‵, raw, _⊛_, ⋆, some, later, runs, anyQ, atRet, Sq, _$_, _∵_, ! }
+use types.Kit.{qed, by, move, keep, drop, use1, use2, use3, split, join, pick, rewrite, fsplit, fjoin, suffices, frame, await, done}
 use types.Part.{whole, sub, look-in}
-use types.Run.{look, store, init, forget, stop, fld, from, load, lit, of-opd, bin, and-then, no-more, assigns, assigns-last, first, blocks, stays, leaves-loop, land, returns, enter, alloc1, alloc0, params1, pass1, pass0, free1, free0, exec, Below, again, loops}
+use types.Run.{look, store, init, forget, stop, fld, from, load, lit, of-opd, bin, and-then, no-more, assigns, assigns-last, first}
+use types.Run.{blocks, stays, leaves-loop, land, returns, enter, alloc1, alloc0, params1, pass1, pass0, free1, free0, exec, Below, again, loops}
 use sound.WpLaws.{FmC, fmOf, WpFn-mono}
 use denote.RattleType.{owns}
 use denote.Laws.{Is, shows}
@@ -52,9 +54,8 @@ use Rattle.position_report.specs.declared.PositionMismatch.{PositionMismatch}
 use Rattle.position_mismatch.specs.declared.SpanWalk.{SpanWalk}
 use Rattle.position_mismatch.specs.declared.Compared.{Compared}
 use Rattle.item_check.specs.Checks.{Answer}
-use Rattle.position_mismatch.specs.Reports.{spansAnswer}
+use Rattle.position_mismatch.specs.Reports.{GivesCompared, spansAnswer}
 use Rattle.position_mismatch.specs.Inner.{startOf, stepOf, finishOf}
-use Rattle.position_mismatch.proofs.Laws.{Gives}
 use Rattle.position_spans.specs.Spans.{noSpan, spanPairs}
 use Rattle.position_spans.specs.declared.Span.{Span}
 use Rattle.position_spans.proofs.Span as T
@@ -63,7 +64,6 @@ use Rattle.position_mismatch.proofs.SpanWalk as R
 use Rattle.position_mismatch.proofs.SpanWalk.Laws as R′
 use Rattle.position_mismatch.proofs.Compared as K
 use Rattle.position_mismatch.proofs.Compared.Laws as K′
-use Rattle.position_spans.proofs.Both.{says-both}
 use Rattle.position_spans.proofs.Known.{words-known}
 use Rattle.position_spans.proofs.Stepped.{Stepped, stepped-start, stepped-more, stepped-end}
 use Rattle.position_spans.proofs.span_at as a
@@ -109,7 +109,8 @@ module _ {M : Type 1} (𝓤 : URA M) (H : Heap 𝓤) (A : Atoms 𝓤) (mem : Mem
   abbrev Finishes : Contract 𝓤
   Finishes = tripleOf 𝓤 H A d.signature (d.spec 𝓤 H A mem run)
 
-module _ {M : Type 1} (𝓤 : URA M) (H : Heap 𝓤) (A : Atoms 𝓤) (W : Given 𝓤 H A) (mem : Memory → SProp 𝓤) (run : Routine → Fun 𝓤) (κ κ′ : Lft) (q q′ : Share) (iv : RefT (List ℕ)) (sp : RefT (List Span)) (gn : length (sp .now) < 2 ^ 64) where
+module _ {M : Type 1} (𝓤 : URA M) (H : Heap 𝓤) (A : Atoms 𝓤) (W : Given 𝓤 H A) (mem : Memory → SProp 𝓤) (run : Routine → Fun 𝓤) (κ κ′ : Lft) (q q′ : Share)
+    (iv : RefT (List ℕ)) (sp : RefT (List Span)) (gn : length (sp .now) < 2 ^ 64) where
   abbrev κs : Lfts 2
   κs = (κ, (κ′, tt))
 
@@ -140,10 +141,10 @@ module _ {M : Type 1} (𝓤 : URA M) (H : Heap 𝓤) (A : Atoms 𝓤) (W : Given
   abbrev OwnS : Fml
   OwnS = ShrSlice (named 1) κ′ T.the-row .own sp (vp ∷ [])
 
-  exits : (r : Compared) (u : Val) → Gives r found → ent 𝓤 (⋆ 𝓤 H A (‵ (K.the-row .own r (u ∷ [])) ∷ ‵ (flft κ q) ∷ ‵ (flft κ′ q′) ∷ ‵ OwnI ∷ ‵ OwnS ∷ [])) (Post u)
+  exits : (r : Compared) (u : Val) → GivesCompared r found → ent 𝓤 (⋆ 𝓤 H A (‵ (K.the-row .own r (u ∷ [])) ∷ ‵ (flft κ q) ∷ ‵ (flft κ′ q′) ∷ ‵ OwnI ∷ ‵ OwnS ∷ [])) (Post u)
   exits r u e =
       qed W (‵ (K.the-row .own r (u ∷ [])) ∷ ‵ (flft κ q) ∷ ‵ (flft κ′ q′) ∷ ‵ OwnI ∷ ‵ OwnS ∷ []) ∵
-      suffices ! _ (ends-at 𝓤 H A f.ended stayed (f.clauses 𝓤 H A mem run) W bound u r (tt, (tt, tt)) (tt, (tt, tt))) $ suffices ! _ (says-both 𝓤 H A W _ _ _ (e .0) (e .1)) $
+      suffices ! _ (ends-at 𝓤 H A f.ended stayed (f.clauses 𝓤 H A mem run) W bound u r (tt, (tt, tt)) (tt, (tt, tt))) $ says ! e $
       nothing ! $ move ! (3 ∷ 0 ∷ []) $ join ! $ move ! (2 ∷ 0 ∷ []) $ join ! $ frame ! $
       nothing ! $ move ! (3 ∷ 0 ∷ []) $ fjoin ! $ move ! (2 ∷ 0 ∷ []) $ fjoin ! $ frame ! $ done !
 
@@ -183,7 +184,8 @@ module _ {M : Type 1} (𝓤 : URA M) (H : Heap 𝓤) (A : Atoms 𝓤) (W : Given
   abbrev to-step : SpanWalk → Val → Span → Val → Steps 𝓤 H A mem run .Ghost
   to-step x w z u = (((κ, tt), (q, tt), tt, (iv, (x, (z, tt))), (vi ∷ [], (w ∷ [], (u ∷ [], tt)))), tt)
 
-  goes-step : (x : SpanWalk) (w : Val) → Is R.the-row x (w ∷ []) → (z : Span) (u : Val) → ent 𝓤 (⋆ 𝓤 H A (‵ (T.the-row .own z (u ∷ [])) ∷ ‵ (flft κ q) ∷ ‵ OwnI ∷ [])) (sep 𝓤 (Steps 𝓤 H A mem run .pre (to-step x w z u)) (sem 𝓤 H A OwnI))
+  goes-step : (x : SpanWalk) (w : Val) → Is R.the-row x (w ∷ []) → (z : Span) (u : Val)
+      → ent 𝓤 (⋆ 𝓤 H A (‵ (T.the-row .own z (u ∷ [])) ∷ ‵ (flft κ q) ∷ ‵ OwnI ∷ [])) (sep 𝓤 (Steps 𝓤 H A mem run .pre (to-step x w z u)) (sem 𝓤 H A OwnI))
   goes-step x w is z u =
       qed W (‵ (T.the-row .own z (u ∷ [])) ∷ ‵ (flft κ q) ∷ ‵ OwnI ∷ []) ∵ nothing ! $ move ! (1 ∷ 0 ∷ []) $ fjoin ! $
       owned ! R.the-row (Is R.the-row) (LL.makes R.the-type R′.the-plain 𝓤 H A) x _ is $ fjoin ! $
@@ -225,7 +227,8 @@ module _ {M : Type 1} (𝓤 : URA M) (H : Heap 𝓤) (A : Atoms 𝓤) (W : Given
   Nearer-wf : WellFounded Nearer
   Nearer-wf = InvImage·wf (λ (t : Done). n - t .0) (Nat·lt-wfRel .wf)
 
-  module _ (𝓣 : Tables 𝓤 H) (known-a : Triple 𝓤 (𝓣 .C #a) (Gets 𝓤 H A mem run)) (known-g : Triple 𝓤 (𝓣 .C #g) (Steps 𝓤 H A mem run)) (known-d : Triple 𝓤 (𝓣 .C #d) (Finishes 𝓤 H A mem run)) (known : Words (now iv)) (l₀ l₁ l₂ l₃ l₄ l₅ l₆ l₇ : ℕ) where
+  module _ (𝓣 : Tables 𝓤 H) (known-a : Triple 𝓤 (𝓣 .C #a) (Gets 𝓤 H A mem run)) (known-g : Triple 𝓤 (𝓣 .C #g) (Steps 𝓤 H A mem run))
+      (known-d : Triple 𝓤 (𝓣 .C #d) (Finishes 𝓤 H A mem run)) (known : Words (now iv)) (l₀ l₁ l₂ l₃ l₄ l₅ l₆ l₇ : ℕ) where
     abbrev C : Calls 𝓤 H
     C = 𝓣 .C
 
@@ -268,23 +271,28 @@ module _ {M : Type 1} (𝓤 : URA M) (H : Heap 𝓤) (A : Atoms 𝓤) (W : Given
         move ! (17 ∷ 19 ∷ []) $ use2 W (raw (Gets 𝓤 H A mem run .pre (to-get (t .0))) ⊛ ‵ OwnS) (goes-get (t .0) less) $ split ! $
         -- [what `span_at` asks; spans; _7; …; _6; …; _5; …; _4; …; _3; …; _2; …; _1; …; _0; …; the token of intervals; intervals]
         calls-at ! fm (Gets 𝓤 H A mem run) known-a (to-get (t .0)) (and-then ! (load ! (from ! (stop !)) (look ! 12 refl)) (and-then ! (load ! (from ! (stop !)) (look ! 8 refl)) (no-more !))) (λ u.
-        use1 W (later (some (λ (z : Span). ((‵ (flft κ′ q′) ⊛ ‵ ftrue) ⊛ ‵ (T.the-row .own z (u ∷ []))) ⊛ raw (ensured 𝓤 H A a.ended (a.clauses 𝓤 H A mem run) (κ′, tt) (sp, (t .0, tt)) tt z)))) (id⊢ 𝓤 _) $ await ! tt $ pick ! (λ z.
+        use1 W (later (some (λ (z : Span). ((‵ (flft κ′ q′) ⊛ ‵ ftrue) ⊛ ‵ (T.the-row .own z (u ∷ []))) ⊛
+        raw (ensured 𝓤 H A a.ended (a.clauses 𝓤 H A mem run) (κ′, tt) (sp, (t .0, tt)) tt z)))) (id⊢ 𝓤 _) $ await ! tt $ pick ! (λ z.
         split ! $ move ! (1 ∷ []) $ use1 W (raw (fact 𝓤 (z ≡ getD (sp .now) (t .0) noSpan))) (get-said (t .0) z) $ heard ! (z ≡ getD (sp .now) (t .0) noSpan) (λ ez. split ! $ move ! (1 ∷ []) $
         -- [the span; the token of spans; spans; room for _7; …; …; the token of intervals; intervals]
         peeks ! T.the-row (Is T.the-row) (shows 𝓤 H A T.the-row) z (u ∷ []) (λ is.
         land ! (from ! (stop !)) (init ! 3 refl (LL.lawful T.the-type T′.the-laws 𝓤 H A W .typed z _ is .0)) $
         move ! (0 ∷ 19 ∷ 20 ∷ []) $ use3 W (raw (Steps 𝓤 H A mem run .pre (to-step (t .1) (t .2) z u)) ⊛ ‵ OwnI) (goes-step (t .1) (t .2) (t .3) z u) $ split ! $
         -- [what `step_over` asks; intervals; the token of spans; spans; _7; …; …]
-        calls-at ! fm (Steps 𝓤 H A mem run) known-g (to-step (t .1) (t .2) z u) (and-then ! (load ! (from ! (stop !)) (look ! 16 refl)) (and-then ! (load ! (from ! (stop !)) (look ! 12 refl)) (and-then ! (load ! (from ! (stop !)) (look ! 4 refl)) (no-more !)))) (λ w.
-        use1 W (later (some (λ (r : SpanWalk). ((‵ (flft κ q) ⊛ ‵ ftrue) ⊛ ‵ (R.the-row .own r (w ∷ []))) ⊛ raw (ensured 𝓤 H A g.ended (g.clauses 𝓤 H A mem run) (κ, tt) (iv, (t .1, (z, tt))) tt r)))) (id⊢ 𝓤 _) $ await ! tt $ pick ! (λ r.
-        split ! $ move ! (1 ∷ []) $ use1 W (raw (fact 𝓤 (r ≡ stepOf (now iv) (t .1) (z .start) (z .end)))) (step-said (t .1) z r) $ heard ! (r ≡ stepOf (now iv) (t .1) (z .start) (z .end)) (λ er. split ! $ move ! (1 ∷ []) $
+        calls-at ! fm (Steps 𝓤 H A mem run) known-g (to-step (t .1) (t .2) z u)
+        (and-then ! (load ! (from ! (stop !)) (look ! 16 refl)) (and-then ! (load ! (from ! (stop !)) (look ! 12 refl)) (and-then ! (load ! (from ! (stop !)) (look ! 4 refl)) (no-more !)))) (λ w.
+        use1 W (later (some (λ (r : SpanWalk). ((‵ (flft κ q) ⊛ ‵ ftrue) ⊛ ‵ (R.the-row .own r (w ∷ []))) ⊛
+        raw (ensured 𝓤 H A g.ended (g.clauses 𝓤 H A mem run) (κ, tt) (iv, (t .1, (z, tt))) tt r)))) (id⊢ 𝓤 _) $ await ! tt $ pick ! (λ r.
+        split ! $ move ! (1 ∷ []) $ use1 W (raw (fact 𝓤 (r ≡ stepOf (now iv) (t .1) (z .start) (z .end)))) (step-said (t .1) z r) $
+        heard ! (r ≡ stepOf (now iv) (t .1) (z .start) (z .end)) (λ er. split ! $ move ! (1 ∷ []) $
         -- [the walk; the token of intervals; intervals; the token of spans; spans; _7; …; _6; …; _5; …; _4; …; _3; …; _2; …; _1; …; _0; …]
         peeks ! R.the-row (Is R.the-row) (shows 𝓤 H A R.the-row) r (w ∷ []) (λ is′.
         land ! (from ! (stop !)) (store ! 13 refl (LL.lawful R.the-type R′.the-laws 𝓤 H A W .typed r _ is′ .0)) $
         assigns-last ! (bin ! (load ! (from ! (stop !)) (look ! 11 refl)) (lit ! tt) (record { fits = next-fits })) (from ! (stop !)) (store ! 11 refl (tt, record { fits = next-fits })) $
         forget ! 5 refl $ forget ! 7 refl $ forget ! 9 refl $ drop ! $ split ! $ move ! (3 ∷ []) $ split ! $
         keep ! (6 ∷ 7 ∷ 8 ∷ 9 ∷ 10 ∷ 11 ∷ 12 ∷ 13 ∷ 14 ∷ 15 ∷ 16 ∷ 17 ∷ 18 ∷ 19 ∷ 20 ∷ 21 ∷ 2 ∷ 0 ∷ 4 ∷ 5 ∷ []) $
-        again ! Nearer At t (t .0 + 1, r, w, is′, stepped-more (now iv) (now sp) (t .1) r (t .0) z (t .4) less ez (LL.owed T.the-type T′.the-laws z _ is .1 .0 .1) er) (add-one-dec n (t .0) less)))))))))
+        again ! Nearer At t (t .0 + 1, r, w, is′, stepped-more (now iv) (now sp) (t .1) r (t .0) z (t .4) less ez (LL.owed T.the-type T′.the-laws z _ is .1 .0 .1) er)
+        (add-one-dec n (t .0) less)))))))))
       where
         less : t .0 < n
         less = ltb-true (t .0) n e
@@ -302,15 +310,18 @@ module _ {M : Type 1} (𝓤 : URA M) (H : Heap 𝓤) (A : Atoms 𝓤) (W : Given
         leaves-loop ! (load ! (from ! (stop !)) (look ! 2 refl)) $ exec ! C Λ En code-mir.t-4 (atRet En Post) $
         move ! (18 ∷ 16 ∷ []) $ use2 W (raw (Finishes 𝓤 H A mem run .pre (to-finish (t .1) (t .2))) ⊛ ‵ OwnI) (goes-finish (t .1) (t .2) (t .3)) $ split ! $
         -- [what `finish` asks; intervals; _7; …; _6; …; _5; …; _4; …; _3; …; _2; …; _1; …; _0; …; the token of spans; spans]
-        calls-at ! fm (Finishes 𝓤 H A mem run) known-d (to-finish (t .1) (t .2)) (and-then ! (load ! (from ! (stop !)) (look ! 14 refl)) (and-then ! (load ! (from ! (stop !)) (look ! 10 refl)) (no-more !))) (λ u.
-        use1 W (later (some (λ (r : Compared). ((‵ (flft κ q) ⊛ ‵ ftrue) ⊛ ‵ (K.the-row .own r (u ∷ []))) ⊛ raw (ensured 𝓤 H A d.ended (d.clauses 𝓤 H A mem run) (κ, tt) (iv, (t .1, tt)) tt r)))) (id⊢ 𝓤 _) $ await ! tt $ pick ! (λ r.
+        calls-at ! fm (Finishes 𝓤 H A mem run) known-d (to-finish (t .1) (t .2))
+        (and-then ! (load ! (from ! (stop !)) (look ! 14 refl)) (and-then ! (load ! (from ! (stop !)) (look ! 10 refl)) (no-more !))) (λ u.
+        use1 W (later (some (λ (r : Compared). ((‵ (flft κ q) ⊛ ‵ ftrue) ⊛ ‵ (K.the-row .own r (u ∷ []))) ⊛
+        raw (ensured 𝓤 H A d.ended (d.clauses 𝓤 H A mem run) (κ, tt) (iv, (t .1, tt)) tt r)))) (id⊢ 𝓤 _) $ await ! tt $ pick ! (λ r.
         split ! $ move ! (1 ∷ []) $ use1 W (raw (fact 𝓤 (r ≡ finishOf (now iv) (t .1)))) (finish-said (t .1) r) $ heard ! (r ≡ finishOf (now iv) (t .1)) (λ er. split ! $ move ! (1 ∷ []) $
         -- [the answer; the token of intervals; intervals; _7; …; _6; …; _5; …; _4; …; _3; …; _2; …; _1; …; room for _0; …;
         -- the token of spans; spans]
         peeks ! K.the-row (Is K.the-row) (shows 𝓤 H A K.the-row) r (u ∷ []) (λ is.
         land ! (from ! (stop !)) (init ! 17 refl (LL.lawful K.the-type K′.the-laws 𝓤 H A W .typed r _ is .0)) $
         returns ! (look ! 17 refl) $ forget ! 5 refl $ forget ! 7 refl $ forget ! 9 refl $ forget ! 11 refl $ forget ! 13 refl $ forget ! 15 refl $ forget ! 17 refl $
-        move ! (17 ∷ 18 ∷ []) $ free1 ! $ move ! (15 ∷ 16 ∷ []) $ free1 ! $ move ! (13 ∷ 14 ∷ []) $ free1 ! $ move ! (11 ∷ 12 ∷ []) $ free1 ! $ move ! (9 ∷ 10 ∷ []) $ free1 ! $ move ! (7 ∷ 8 ∷ []) $ free1 ! $ move ! (5 ∷ 6 ∷ []) $ free1 ! $ move ! (3 ∷ 4 ∷ []) $ free1 ! $ free0 ! $
+        move ! (17 ∷ 18 ∷ []) $ free1 ! $ move ! (15 ∷ 16 ∷ []) $ free1 ! $ move ! (13 ∷ 14 ∷ []) $ free1 ! $ move ! (11 ∷ 12 ∷ []) $ free1 ! $ move ! (9 ∷ 10 ∷ []) $
+        free1 ! $ move ! (7 ∷ 8 ∷ []) $ free1 ! $ move ! (5 ∷ 6 ∷ []) $ free1 ! $ move ! (3 ∷ 4 ∷ []) $ free1 ! $ free0 ! $
         -- [the answer; the token of intervals; intervals; the token of spans; spans]
         move ! (1 ∷ []) $ split ! $ keep ! (2 ∷ 0 ∷ 4 ∷ 3 ∷ 5 ∷ []) $
         by ! (exits r u (stepped-end (now iv) (now sp) (t .1) (t .0) r known gn (t .4) (ltb-false (t .0) n e) er))))))
@@ -327,9 +338,11 @@ module _ {M : Type 1} (𝓤 : URA M) (H : Heap 𝓤) (A : Atoms 𝓤) (W : Given
       → Is (ShrSlice (named 0) κ u64) iv (vi ∷ []) → Is (ShrSlice (named 1) κ′ T.the-row) sp (vp ∷ [])
       → ent 𝓤 (onEntry 𝓤 H A f.signature κs (q, (q′, tt)) (iv, (sp, tt)) at) (WpFn 𝓤 H (𝓣 .C) (𝓣 .Λ) code.function (vi ∷ vp ∷ []) Post)
   walk 𝓣 known-s known-a known-g known-d pi pp =
-      qed W ((‵ (flft κ q) ⊛ ‵ (flft κ′ q′) ⊛ ‵ ftrue) ∷ ‵ (owns (ShrSlice (named 0) κ u64 ∷ ShrSlice (named 1) κ′ T.the-row ∷ []) (iv, (sp, tt)) at) ∷ []) ∵ enter ! (𝓣 .C) (𝓣 .Λ) code.function (vi ∷ vp ∷ []) _ $
+      qed W ((‵ (flft κ q) ⊛ ‵ (flft κ′ q′) ⊛ ‵ ftrue) ∷ ‵ (owns (ShrSlice (named 0) κ u64 ∷ ShrSlice (named 1) κ′ T.the-row ∷ []) (iv, (sp, tt)) at) ∷ []) ∵
+      enter ! (𝓣 .C) (𝓣 .Λ) code.function (vi ∷ vp ∷ []) _ $
       alloc1 ! (λ l₀. alloc1 ! (λ l₁. alloc1 ! (λ l₂. alloc1 ! (λ l₃. alloc1 ! (λ l₄. alloc1 ! (λ l₅. alloc1 ! (λ l₆. alloc1 ! (λ l₇. alloc0 ! $ params1 ! $
-      pass1 ! (init ! 12 refl (shr-slice-lawful 𝓤 H A W (named 0) κ u64 .typed iv (vi ∷ []) pi .0)) $ pass1 ! (init ! 10 refl (shr-slice-lawful 𝓤 H A W (named 1) κ′ T.the-row .typed sp (vp ∷ []) pp .0)) $ pass0 ! $
+      pass1 ! (init ! 12 refl (shr-slice-lawful 𝓤 H A W (named 0) κ u64 .typed iv (vi ∷ []) pi .0)) $
+      pass1 ! (init ! 10 refl (shr-slice-lawful 𝓤 H A W (named 1) κ′ T.the-row .typed sp (vp ∷ []) pp .0)) $ pass0 ! $
       -- [_7; …; _0; …; the tokens; what the parameters own]
       move ! (17 ∷ []) $ fsplit ! $ move ! (1 ∷ []) $ fsplit ! $ move ! (19 ∷ []) $ split ! $ move ! (1 ∷ []) $ split ! $
       -- [the token of spans; true; the token of intervals; spans; true; intervals; _7; …; _0; …]
@@ -338,7 +351,8 @@ module _ {M : Type 1} (𝓤 : URA M) (H : Heap 𝓤) (A : Atoms 𝓤) (W : Given
       use2 W (raw (Starts 𝓤 H A mem run .pre to-start) ⊛ ‵ OwnI) goes-start $ split ! $
       -- [what `start` asks; intervals; _7; …; _0; …; the token of spans; spans]
       calls-at ! (fmOf 𝓤 H (W .laws) 𝓣) (Starts 𝓤 H A mem run) known-s to-start (and-then ! (load ! (from ! (stop !)) (look ! 14 refl)) (no-more !)) (λ w.
-      use1 W (later (some (λ (r : SpanWalk). ((‵ (flft κ q) ⊛ ‵ ftrue) ⊛ ‵ (R.the-row .own r (w ∷ []))) ⊛ raw (ensured 𝓤 H A s.ended (s.clauses 𝓤 H A mem run) (κ, tt) (iv, tt) tt r)))) (id⊢ 𝓤 _) $ await ! tt $ pick ! (λ r.
+      use1 W (later (some (λ (r : SpanWalk). ((‵ (flft κ q) ⊛ ‵ ftrue) ⊛ ‵ (R.the-row .own r (w ∷ []))) ⊛
+      raw (ensured 𝓤 H A s.ended (s.clauses 𝓤 H A mem run) (κ, tt) (iv, tt) tt r)))) (id⊢ 𝓤 _) $ await ! tt $ pick ! (λ r.
       split ! $ move ! (1 ∷ []) $ use1 W (raw (fact 𝓤 (r ≡ startOf (now iv)))) (start-said r) $ heard ! (r ≡ startOf (now iv)) (λ e. split ! $ move ! (1 ∷ []) $
       -- [the walk; the token of intervals; intervals; _7; …; _0; …; the token of spans; spans]
       peeks ! R.the-row (Is R.the-row) (shows 𝓤 H A R.the-row) r (w ∷ []) (λ is.
@@ -351,8 +365,10 @@ module _ {M : Type 1} (𝓤 : URA M) (H : Heap 𝓤) (A : Atoms 𝓤) (W : Given
 module _ {M : Type 1} (𝓤 : URA M) (H : Heap 𝓤) (A : Atoms 𝓤) (W : Given 𝓤 H A) (mem : Memory → SProp 𝓤) (run : Routine → Fun 𝓤) (𝓣 : Tables 𝓤 H) where
   f-walks : Triple 𝓤 (𝓣 .C #s) (Starts 𝓤 H A mem run) → Triple 𝓤 (𝓣 .C #a) (Gets 𝓤 H A mem run) → Triple 𝓤 (𝓣 .C #g) (Steps 𝓤 H A mem run) → Triple 𝓤 (𝓣 .C #d) (Finishes 𝓤 H A mem run)
       → Walks 𝓤 H A f.ended stayed (WpFn 𝓤 H (𝓣 .C) (𝓣 .Λ) code.function) (f.clauses 𝓤 H A mem run)
-  f-walks known-s known-a known-g known-d = walked 𝓤 H A f.ended stayed (f.clauses 𝓤 H A mem run) (WpFn 𝓤 H (𝓣 .C) (𝓣 .Λ) code.function) (λ κs. (slice-vals, (slice-vals, tt))) (λ κs. (shr-slice-tells (named 0) (κs .0) u64, (shr-slice-tells (named 1) (κs .1 .0) T.the-row, tt)))
-      (λ κs qs bounds a g are. via 𝓤 _ (fst∗ 𝓤 _ (emp 𝓤)) (walk 𝓤 H A W mem run (κs .0) (κs .1 .0) (qs .0) (qs .1 .0) (a .0) (a .1 .0) (are .1 .0 .0 .1 .0) 𝓣 known-s known-a known-g known-d (are .0) (are .1 .0)))
+  f-walks known-s known-a known-g known-d = walked 𝓤 H A f.ended stayed (f.clauses 𝓤 H A mem run) (WpFn 𝓤 H (𝓣 .C) (𝓣 .Λ) code.function)
+      (λ κs. (slice-vals, (slice-vals, tt))) (λ κs. (shr-slice-tells (named 0) (κs .0) u64, (shr-slice-tells (named 1) (κs .1 .0) T.the-row, tt)))
+      (λ κs qs bounds a g are. via 𝓤 _ (fst∗ 𝓤 _ (emp 𝓤))
+      (walk 𝓤 H A W mem run (κs .0) (κs .1 .0) (qs .0) (qs .1 .0) (a .0) (a .1 .0) (are .1 .0 .0 .1 .0) 𝓣 known-s known-a known-g known-d (are .0) (are .1 .0)))
 
 f-meets : {M : Type 1} (𝓤 : URA M) (H : Heap 𝓤) (A : Atoms 𝓤) (W : Given 𝓤 H A) (mem : Memory → SProp 𝓤) (run : Routine → Fun 𝓤) (𝓣 : Tables 𝓤 H)
     → Triple 𝓤 (𝓣 .C #s) (Starts 𝓤 H A mem run) → Triple 𝓤 (𝓣 .C #a) (Gets 𝓤 H A mem run) → Triple 𝓤 (𝓣 .C #g) (Steps 𝓤 H A mem run) → Triple 𝓤 (𝓣 .C #d) (Finishes 𝓤 H A mem run)

@@ -40,12 +40,10 @@ use denote.Exit.{yes}
 use denote.Triple.Clauses.{ensured, lasts}
 use Rattle.key_order.specs.Boundary.{Boundary}
 use Rattle.query_item.specs.declared.ItemWords.{ItemWords}
-use Rattle.query_item.specs.Items.{bytesOf}
-use Rattle.query_item.specs.Boundaries.{rangeOf, keyOf, kindOf, boundaryOf}
+use Rattle.query_item.specs.Boundaries.{rangeOf, boundaryOf}
 use Rattle.query_item.proofs.ItemWords as I
 use Rattle.query_item.proofs.ItemWords.Laws as I′
-use Rattle.range_borrowed.specs.Kinds.{kindNumber}
-use Rattle.range_borrowed.specs.Borrowed.{lent, mayStand}
+use Rattle.range_borrowed.specs.Borrowed.{lentStart, lentEnd, Lends, mayStand}
 use Rattle.range_borrowed.specs.declared.Direction.{Direction}
 use Rattle.range_borrowed.specs.declared.RangeSetBorrowed.{RangeSetBorrowed}
 use Rattle.range_borrowed.proofs.Bounds.{lent-boundary}
@@ -106,11 +104,11 @@ module _ {M : Type 1} (𝓤 : URA M) (H : Heap 𝓤) (A : Atoms 𝓤) (W : Given
   found = between (boundaryOf (now p) (rangeOf w .start)) (boundaryOf (now p) (rangeOf w .end))
 
   abbrev asked : RangeSetBorrowed → Bool
-  asked r = between (lent (now (r .start)) (r .«start_kind»)) (lent (now (r .end)) (r .«end_kind»))
+  asked r = between (lentStart r) (lentEnd r)
 
   -- what the maker says of the struct
   abbrev Made : RangeSetBorrowed → Type 0
-  Made r = (now (r .start) ≡ bytesOf (now p) (keyOf (rangeOf w .start))) × (now (r .end) ≡ bytesOf (now p) (keyOf (rangeOf w .end))) × (r .«start_kind» ≡ kindNumber (kindOf (rangeOf w .start))) × (r .«end_kind» ≡ kindNumber (kindOf (rangeOf w .end)))
+  Made r = Lends (now p) (rangeOf w) r
 
   agree : (r : RangeSetBorrowed) → Made r → asked r ≡ found
   agree r m = ap₂ between (lent-boundary (now p) (rangeOf w .start) (m .0) (m .2)) (lent-boundary (now p) (rangeOf w .end) (m .1) (m .3))

@@ -6,6 +6,7 @@ use borrow.Author.Tests.{lt-ltb, le-ltb, not-true, not-false}
 use lib.ListN.{length}
 use denote.Ref.{now}
 use borrow.Author.Needs.{needs}
+use Rattle.item_check.specs.Checks.{mostPool}
 use Rattle.sheet_read.proofs.check_measure.Statement.{statement}
 use Rattle.sheet_read.proofs.check_measure.Tie as tie
 
@@ -16,7 +17,7 @@ returns-2 : tie.Need-returns-2
 returns-2 c =
     let second = c .before in
     let a = second .before .before .before .before .before .args in
-    rw (not-false (a .m .good) (second .before .if1 .left), lt-ltb 65536 (length (now (a .pool))) (second .if2 .taken)) (c .refuse2 .ensures)
+    rw (not-false (a .m .good) (second .before .if1 .left), lt-ltb mostPool (length (now (a .pool))) (second .if2 .taken)) (c .refuse2 .ensures)
 
 returns-3 : tie.Need-returns-3
 returns-3 c =
@@ -24,7 +25,7 @@ returns-3 c =
     let a = third .before .before .before .before .before .before .args in
     rw (
       not-false (a .m .good) (third .before .before .if1 .left),
-      le-ltb 65536 (length (now (a .pool))) (third .before .if2 .left),
+      le-ltb mostPool (length (now (a .pool))) (third .before .if2 .left),
       third .if3 .taken,
     )
     (c .refuse3 .ensures)
@@ -37,7 +38,7 @@ returns-4 c =
     let full : ltb (length (now (a .pool))) (a .m .bytes) || room .result || ltb 2048 (a .m .rows) ≡ true = c .before .if4 .taken in
     rw (
       not-false (a .m .good) (third .before .before .if1 .left),
-      le-ltb 65536 (length (now (a .pool))) (third .before .if2 .left),
+      le-ltb mostPool (length (now (a .pool))) (third .before .if2 .left),
       third .if3 .left,
       ← room .ensures,
       full,
@@ -52,7 +53,7 @@ returns-5 c =
     let fits : ltb (length (now (a .pool))) (a .m .bytes) || room .result || ltb 2048 (a .m .rows) ≡ false = c .if4 .left in
     rw (
       not-false (a .m .good) (third .before .before .if1 .left),
-      le-ltb 65536 (length (now (a .pool))) (third .before .if2 .left),
+      le-ltb mostPool (length (now (a .pool))) (third .before .if2 .left),
       third .if3 .left,
       ← room .ensures,
       fits,

@@ -43,13 +43,13 @@ loop-again c =
     let p = c .before .before .before .before .put-row in
     let turn = c .before .before .before .before .before .before .before .before in
     filling-more (turn .before .loop .inv) (turn .loop-test .taken) (c .before .before .before .before .before .before .before .row-places .ensures)
-    (p .ensures .0) (p .ensures .1 .0) (p .ensures .1 .1) (p .kept .1 .1 .1 .1 .0) (p .kept .1 .1 .1 .1 .1 .0)
+    (p .ensures .0) (p .ensures .1 .0) (p .ensures .1 .1) (p .kept .1 .1 .1 .1 .0)
 
 same-length : tie.Need-same-length Inv-loop μ-loop
 same-length c = c .before .loop .inv .pool-same
 
 same-length-2 : tie.Need-same-length-2 Inv-loop μ-loop
-same-length-2 c = c .before .loop .inv .out-same
+same-length-2 c = c .before .loop .inv .items .same
 
 returns : tie.Need-returns Inv-loop μ-loop
 returns c = filling-end (c .before .loop .inv) (c .loop-test .left)

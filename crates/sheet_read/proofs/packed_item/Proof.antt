@@ -5,7 +5,14 @@ use Rattle.sheet_read.proofs.packed_item.Tie as tie
 
 returns : tie.Need-returns
 returns c =
-    rw (c .before .before .key-for .ensures, c .before .before .before .has-start .ensures, c .key-for2 .ensures, c .before .has-end .ensures)
+    let keys = c .before in
+    rw (
+      c .make-item .ensures,
+      keys .before .before .key-for .ensures,
+      keys .before .before .before .has-start .ensures,
+      keys .key-for2 .ensures,
+      keys .before .has-end .ensures,
+    )
 
 pub packed-item-spec : {M : Type 1} → statement M
 packed-item-spec =
@@ -15,5 +22,6 @@ packed-item-spec =
     (λ c κs. search needs)
     (λ c κs. search needs)
     (λ c. search needs)
+    (λ c κs. search needs)
     (λ c κs. search needs)
     returns)

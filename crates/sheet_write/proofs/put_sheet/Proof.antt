@@ -9,10 +9,12 @@ use Rattle.sheet_write.proofs.put_sheet.Tie as tie
 
 returns : tie.Need-returns
 returns c =
-    let p = c .before .before .before .put-rows in
-    let a = c .before .before .before .before .before .before .before .before .args in
+    let room = c .before in
+    let p = room .before .before .before .put-rows in
+    let a = room .before .before .before .before .before .before .before .before .args in
     let text = itemsText (now (a .pool)) (itemsOf (now (a .words))) in
-    room-refused text (now (a .out)) (p .last .0) (p .result) (p .ensures .0) (p .ensures .1) (c .if1 .taken)
+    rw (c .refusal-of .ensures)
+    (room-refused text (now (a .out)) (p .last .0) (p .result) (p .ensures .0) (p .ensures .1) (room .if1 .taken))
 
 returns-2 : tie.Need-returns-2
 returns-2 c =
@@ -27,4 +29,4 @@ returns-2 c =
 pub put-sheet-spec : {M : Type 1} → statement M
 put-sheet-spec =
     tie.close
-    (tie.spec (λ c κs. search needs) (λ c. search needs) returns (λ c κs. search needs) (λ c. search needs) returns-2)
+    (tie.spec (λ c κs. search needs) (λ c κs. search needs) (λ c. search needs) returns (λ c κs. search needs) (λ c. search needs) returns-2)

@@ -8,7 +8,10 @@ returns : tie.Need-returns
 returns c = collected-told (c .before .before .before .before .before .before .before .before .before .collect .ensures) (c .before .n .given .1)
 
 returns-2 : tie.Need-returns-2
-returns-2 c = collected-refused (c .before .before .before .before .before .before .before .before .before .before .collect .ensures) (c .before .before .refusal .given .1) (c .refusal-number .ensures)
+returns-2 c =
+    let called = c .before .before in
+    collected-refused (called .before .before .before .before .before .before .before .before .collect .ensures) (called .refusal .given .1)
+    (c .refusal-number .ensures)
 
 pub fernsponge-collect-spec : {M : Type 1} → statement M
 fernsponge-collect-spec =

@@ -5,10 +5,24 @@ use Rattle.fernsponge.proofs.insertion.fernsponge_insert_item.Statement
 use Rattle.fernsponge.proofs.insertion.fernsponge_insert_item.Tie as tie
 
 returns : tie.Need-returns
-returns c = (rw (← c .before .before .before .before .before .before .item-at .ensures, ← c .before .before .before .before .before .insert-item .ensures .0, c .before .n .given .1), (rw (← c .before .before .before .before .before .before .item-at .ensures) (c .before .before .before .before .before .insert-item .ensures .1), rw (← c .before .before .before .before .before .before .item-at .ensures, ← c .before .before .before .before .before .insert-item .ensures .0, c .before .n .given .1)))
+returns c =
+    let called = c .before .before .before .before .before in (
+      rw (← called .before .item-at .ensures, ← called .insert-item .ensures .0, c .before .n .given .1),
+      (
+        rw (← called .before .item-at .ensures) (called .insert-item .ensures .1),
+        rw (← called .before .item-at .ensures, ← called .insert-item .ensures .0, c .before .n .given .1),
+      ),
+    )
 
 returns-2 : tie.Need-returns-2
-returns-2 c = (rw (← c .before .before .before .before .before .before .before .item-at .ensures, ← c .before .before .before .before .before .before .insert-item .ensures .0, c .before .before .refusal .given .1) (c .refusal-number .ensures), (rw (← c .before .before .before .before .before .before .before .item-at .ensures) (c .before .before .before .before .before .before .insert-item .ensures .1), rw (← c .before .before .before .before .before .before .before .item-at .ensures, ← c .before .before .before .before .before .before .insert-item .ensures .0, c .before .before .refusal .given .1)))
+returns-2 c =
+    let called = c .before .before .before .before .before .before in (
+      rw (← called .before .item-at .ensures, ← called .insert-item .ensures .0, c .before .before .refusal .given .1) (c .refusal-number .ensures),
+      (
+        rw (← called .before .item-at .ensures) (called .insert-item .ensures .1),
+        rw (← called .before .item-at .ensures, ← called .insert-item .ensures .0, c .before .before .refusal .given .1),
+      ),
+    )
 
 pub fernsponge-insert-item-spec : {M : Type 1} → statement M
 fernsponge-insert-item-spec =

@@ -5,7 +5,13 @@ use Rattle.fernsponge.proofs.items.fernsponge_compare_boundaries.Statem
 use Rattle.fernsponge.proofs.items.fernsponge_compare_boundaries.Tie as tie
 
 returns : tie.Need-returns
-returns c = rw (← c .before .before .before .before .before .before .is-kind .ensures, ← c .before .before .before .before .before .is-kind2 .ensures, c .before .before .before .before .if1 .taken) (refl, rw (c .order-number .ensures, c .before .compare-boundaries .ensures, c .before .before .before .kind-numbered .ensures, c .before .before .kind-numbered2 .ensures))
+returns c =
+    let called = c .before .before .before in
+    rw (← called .before .before .before .is-kind .ensures, ← called .before .before .is-kind2 .ensures, called .before .if1 .taken) (
+      refl,
+      rw
+          (c .order-number .ensures, c .before .compare-boundaries .ensures, called .kind-numbered .ensures, c .before .before .kind-numbered2 .ensures),
+    )
 
 returns-2 : tie.Need-returns-2
 returns-2 c = rw (← c .before .before .is-kind .ensures, ← c .before .is-kind2 .ensures, c .if1 .left) (refl, refl)

@@ -5,10 +5,16 @@ use Rattle.fernsponge.proofs.items.fernsponge_could_contain_key.Stateme
 use Rattle.fernsponge.proofs.items.fernsponge_could_contain_key.Tie as tie
 
 returns : tie.Need-returns
-returns c = rw (← c .before .before .before .before .before .item-at .ensures, ← c .before .before .before .before .could-contain-key .ensures, c .before .before .c .given .1) (refl, c .containment-numbers .ensures)
+returns c =
+    let called = c .before .before in
+    rw (← called .before .before .before .item-at .ensures, ← called .before .before .could-contain-key .ensures, called .c .given .1)
+    (refl, c .containment-numbers .ensures)
 
 returns-2 : tie.Need-returns-2
-returns-2 c = rw (← c .before .before .before .before .before .item-at .ensures, ← c .before .before .before .before .could-contain-key .ensures, c .before .before .refusal .given .1) (c .refusal-number .ensures, refl)
+returns-2 c =
+    let called = c .before .before in
+    rw (← called .before .before .before .item-at .ensures, ← called .before .before .could-contain-key .ensures, called .refusal .given .1)
+    (c .refusal-number .ensures, refl)
 
 pub fernsponge-could-contain-key-spec : {M : Type 1} → statement M
 fernsponge-could-contain-key-spec =

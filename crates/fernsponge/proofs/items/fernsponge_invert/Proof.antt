@@ -5,7 +5,10 @@ use Rattle.fernsponge.proofs.items.fernsponge_invert.Statement.{stateme
 use Rattle.fernsponge.proofs.items.fernsponge_invert.Tie as tie
 
 returns : tie.Need-returns
-returns c = rw (← c .before .before .before .before .is-kind .ensures, c .before .before .before .if1 .taken) (refl, rw (c .kind-number .ensures, c .before .invert .ensures, c .before .before .kind-numbered .ensures))
+returns c =
+    let called = c .before .before in
+    rw (← called .before .before .is-kind .ensures, called .before .if1 .taken)
+    (refl, rw (c .kind-number .ensures, c .before .invert .ensures, called .kind-numbered .ensures))
 
 returns-2 : tie.Need-returns-2
 returns-2 c = rw (← c .before .is-kind .ensures, c .if1 .left) (refl, refl)

@@ -6,13 +6,13 @@ use Rattle.fernsponge.proofs.items.fernsponge_to_query_item.Statement.{
 use Rattle.fernsponge.proofs.items.fernsponge_to_query_item.Tie as tie
 
 returns : tie.Need-returns
-returns c = rw (← c .before .before .item-at .ensures, ← c .before .is-malformed-set .ensures, c .if1 .taken) (refl, refl)
+returns c = rw (← c .before .before .set-words .ensures, ← c .before .is-malformed-set .ensures, c .if1 .taken) (refl, refl)
 
 returns-2 : tie.Need-returns-2
 returns-2 c =
     let test = c .before .before .before .before in
     rw (
-      ← test .before .before .item-at .ensures,
+      ← test .before .before .set-words .ensures,
       ← test .before .is-malformed-set .ensures,
       test .if1 .left,
       ← c .before .before .before .set-of-words .ensures,

@@ -5,10 +5,16 @@ use Rattle.fernsponge.proofs.items.fernsponge_to_range_set.Statement.{s
 use Rattle.fernsponge.proofs.items.fernsponge_to_range_set.Tie as tie
 
 returns : tie.Need-returns
-returns c = rw (← c .before .before .before .before .before .item-at .ensures, ← c .before .before .before .before .to-range-set .ensures, c .before .before .set .given .1) (refl, c .set-numbers .ensures)
+returns c =
+    let called = c .before .before in
+    rw (← called .before .before .before .item-at .ensures, ← called .before .before .to-range-set .ensures, called .set .given .1)
+    (refl, c .set-numbers .ensures)
 
 returns-2 : tie.Need-returns-2
-returns-2 c = rw (← c .before .before .before .before .before .item-at .ensures, ← c .before .before .before .before .to-range-set .ensures, c .before .before .refusal .given .1) (c .refusal-number .ensures, refl)
+returns-2 c =
+    let called = c .before .before in
+    rw (← called .before .before .before .item-at .ensures, ← called .before .before .to-range-set .ensures, called .refusal .given .1)
+    (c .refusal-number .ensures, refl)
 
 pub fernsponge-to-range-set-spec : {M : Type 1} → statement M
 fernsponge-to-range-set-spec =

@@ -1,7 +1,5 @@
 -- `fernsponge::many::fernsponge_intersect_many` meets its contract: the words are those of the call above, and each arm tells the answer
 -- that it took apart. Assumes nothing.
-use mathlib.Core.Path.{sym, ap, _∙_}
-use Rattle.intersect_many.specs.Lists.{manyOf}
 use Rattle.fernsponge.proofs.Given.{many-counted, many-refused}
 use borrow.Author.Needs.{needs}
 use Rattle.fernsponge.proofs.many.fernsponge_intersect_many.Statement.{statement}
@@ -10,14 +8,12 @@ use Rattle.fernsponge.proofs.many.fernsponge_intersect_many.Tie as tie
 returns : tie.Need-returns
 returns c =
     let called = c .before .before .before .before .before .before .before .before .before .before in
-    let e = called .intersect-many-ordered .ensures in
-    many-counted (e .1 .0) (e .1 .1 .0) (e .1 .1 .1) (sym (e .0) ∙ ap manyOf (c .before .before .n .given .1))
+    many-counted (called .intersect-many-ordered .ensures) (c .before .before .n .given .1)
 
 returns-2 : tie.Need-returns-2
 returns-2 c =
     let called = c .before .before .before .before .before .before .before .before .before .before in
-    let e = called .intersect-many-ordered .ensures in
-    many-refused (e .1 .0) (e .1 .1 .0) (e .1 .1 .1) (sym (e .0) ∙ ap manyOf (c .before .before .refusal .given .1)) (c .refusal-number .ensures)
+    many-refused (called .intersect-many-ordered .ensures) (c .before .before .refusal .given .1) (c .refusal-number .ensures)
 
 pub fernsponge-intersect-many-spec : {M : Type 1} → statement M
 fernsponge-intersect-many-spec =

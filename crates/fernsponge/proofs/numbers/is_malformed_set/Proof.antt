@@ -10,9 +10,9 @@ returns c =
       keys .before .before .is-kind .ensures,
       keys .before .is-kind2 .ensures,
       keys .is-unbounded .ensures,
-      c .before .before .is-written .ensures,
+      c .before .before .is-nonzero .ensures,
       c .before .is-unbounded2 .ensures,
-      c .is-written2 .ensures,
+      c .is-nonzero2 .ensures,
     )
 
 pub is-malformed-set-spec : {M : Type 1} → statement M

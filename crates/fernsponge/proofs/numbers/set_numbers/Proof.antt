@@ -6,7 +6,16 @@ use Rattle.fernsponge.proofs.numbers.set_numbers.Tie as tie
 
 returns : tie.Need-returns
 unfolding setWords
-returns c = rw (c .kind-number2 .ensures, c .before .kind-of2 .ensures, c .before .before .kind-number .ensures, c .before .before .before .kind-of .ensures, c .before .before .before .before .key-of2 .ensures, c .before .before .before .before .before .key-of .ensures)
+returns c =
+    let called = c .before .before in
+    rw (
+      c .kind-number2 .ensures,
+      c .before .kind-of2 .ensures,
+      called .kind-number .ensures,
+      called .before .kind-of .ensures,
+      called .before .before .key-of2 .ensures,
+      called .before .before .before .key-of .ensures,
+    )
 
 pub set-numbers-spec : {M : Type 1} → statement M
 set-numbers-spec =

@@ -4,10 +4,18 @@ use Rattle.fernsponge.proofs.positions.fernsponge_describe.Statement.{s
 use Rattle.fernsponge.proofs.positions.fernsponge_describe.Tie as tie
 
 returns : tie.Need-returns
-returns c = (rw (← c .before .before .before .before .before .describe .ensures .0, c .before .n .given .1), (c .before .before .before .before .before .describe .ensures .1, rw (← c .before .before .before .before .before .describe .ensures .0, c .before .n .given .1)))
+returns c =
+    let called = c .before .before .before .before .before in (
+      rw (← called .describe .ensures .0, c .before .n .given .1),
+      (called .describe .ensures .1, rw (← called .describe .ensures .0, c .before .n .given .1)),
+    )
 
 returns-2 : tie.Need-returns-2
-returns-2 c = (rw (← c .before .before .before .before .before .before .describe .ensures .0, c .before .before .refusal .given .1) (c .refusal-number .ensures), (c .before .before .before .before .before .before .describe .ensures .1, rw (← c .before .before .before .before .before .before .describe .ensures .0, c .before .before .refusal .given .1)))
+returns-2 c =
+    let called = c .before .before .before .before .before .before in (
+      rw (← called .describe .ensures .0, c .before .before .refusal .given .1) (c .refusal-number .ensures),
+      (called .describe .ensures .1, rw (← called .describe .ensures .0, c .before .before .refusal .given .1)),
+    )
 
 pub fernsponge-describe-spec : {M : Type 1} → statement M
 fernsponge-describe-spec =

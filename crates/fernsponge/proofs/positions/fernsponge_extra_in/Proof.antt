@@ -4,7 +4,7 @@ use Rattle.fernsponge.proofs.positions.fernsponge_extra_in.Statement.{s
 use Rattle.fernsponge.proofs.positions.fernsponge_extra_in.Tie as tie
 
 returns : tie.Need-returns
-returns c = rw (← c .before .before .before .before .extra-in .ensures .0) (c .give-report .ensures)
+returns c = rw (← c .before .before .before .before .extra-in .ensures .answer) (c .give-report .ensures)
 
 pub fernsponge-extra-in-spec : {M : Type 1} → statement M
 fernsponge-extra-in-spec = tie.close (tie.spec (λ c κs. search needs) (λ c κs. search needs) returns)

@@ -4,7 +4,7 @@ use Rattle.fernsponge.proofs.positions.fernsponge_missing_from.Statemen
 use Rattle.fernsponge.proofs.positions.fernsponge_missing_from.Tie as tie
 
 returns : tie.Need-returns
-returns c = rw (← c .before .before .before .before .missing-from .ensures .0) (c .give-report .ensures)
+returns c = rw (← c .before .before .before .before .missing-from .ensures .answer) (c .give-report .ensures)
 
 pub fernsponge-missing-from-spec : {M : Type 1} → statement M
 fernsponge-missing-from-spec = tie.close (tie.spec (λ c κs. search needs) (λ c κs. search needs) returns)

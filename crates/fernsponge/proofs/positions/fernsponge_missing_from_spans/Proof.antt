@@ -1,7 +1,7 @@
 -- `fernsponge_missing_from_spans` meets its contract: a walk of its MIR, by hand. `missing_from_spans` is called on the two slices, and
 -- `give_report` on its answer and the three places. These go to it at their own lifetimes, shares and names, and nothing has to come back:
 -- what `give_report` says of their last values is what is said of them at exit. Assumes nothing.
-use mathlib.Core.Path.{_≡_, refl, subst}
+use mathlib.Core.Path.{refl, subst}
 use mathlib.Core.List.{List, [], _∷_}
 use Prim.Native.Nat.{ℕ}
 use lib.ListN.{length}
@@ -42,14 +42,12 @@ use Rattle.item_check.specs.Checks.{Answer}
 use Rattle.position_report.specs.declared.PositionMismatch.{PositionMismatch}
 use Rattle.position_report.specs.Reports.{mostReported}
 use Rattle.position_mismatch.specs.declared.Compared.{Compared}
-use Rattle.position_mismatch.specs.Reports.{comparedOf, reportIn, spansAnswer}
-use Rattle.position_mismatch.proofs.Laws.{Gives}
+use Rattle.position_mismatch.specs.Reports.{comparedOf, GivesCompared, spansAnswer}
 use Rattle.position_mismatch.proofs.Compared as K
 use Rattle.position_mismatch.proofs.Compared.Laws as K′
 use Rattle.position_spans.specs.declared.Span.{Span}
 use Rattle.position_spans.specs.Spans.{spanPairs}
 use Rattle.position_spans.proofs.Span as T
-use Rattle.position_spans.proofs.Both.{hears-both}
 use Rattle.position_spans.proofs.missing_from_spans as a
 use Rattle.position_spans.proofs.missing_from_spans.Symbol as a-def
 use Rattle.position_spans.proofs.missing_from_spans.Symbol.{name as #a}
@@ -160,8 +158,8 @@ module _ {M : Type 1} (𝓤 : URA M) (H : Heap 𝓤) (A : Atoms 𝓤) (W : Given
       asks : ent 𝓤 (onEntry 𝓤 H A a.signature κs-a (q₀, (q₁, tt)) (iv, (sp, tt)) (vi ∷ [], (vp ∷ [], tt))) (Compares 𝓤 H A mem run .pre to-compare)
       asks = qed W ((‵ (flft κ₀ q₀) ⊛ ‵ (flft κ₁ q₁) ⊛ ‵ ftrue) ∷ ‵ (owns (ShrSlice (named 0) κ₀ u64 ∷ ShrSlice (named 1) κ₁ T.the-row ∷ []) (iv, (sp, tt)) (vi ∷ [], (vp ∷ [], tt))) ∷ []) ∵ join ! $ frame ! $ done !
 
-  compare-said : (x : Compared) → ent 𝓤 (ensured 𝓤 H A a.ended (a.clauses 𝓤 H A mem run) κs-a (iv, (sp, tt)) tt x) (fact 𝓤 (Gives x found))
-  compare-said x = exE 𝓤 _ (λ ws. via 𝓤 _ (snd∗ 𝓤 (sem 𝓤 H A (lasts a.ended κs-a (iv, (sp, tt)) ws)) (sep 𝓤 (fact 𝓤 (comparedOf x ≡ found)) (fact 𝓤 (x .report ≡ reportIn found)))) (hears-both 𝓤 H A W (comparedOf x ≡ found) (x .report ≡ reportIn found)))
+  compare-said : (x : Compared) → ent 𝓤 (ensured 𝓤 H A a.ended (a.clauses 𝓤 H A mem run) κs-a (iv, (sp, tt)) tt x) (fact 𝓤 (GivesCompared x found))
+  compare-said x = exE 𝓤 _ (λ ws. snd∗ 𝓤 (sem 𝓤 H A (lasts a.ended κs-a (iv, (sp, tt)) ws)) (fact 𝓤 (GivesCompared x found)))
 
   -- ---- the call of `give_report`, at an answer with its machine value
   abbrev κs-g : Lfts 3
@@ -192,7 +190,7 @@ module _ {M : Type 1} (𝓤 : URA M) (H : Heap 𝓤) (A : Atoms 𝓤) (W : Given
         -- [what `missing_from_spans` asks; intervals; spans; _9; …; _0; …; the tokens of total, count and examples; total; count; examples]
         calls-at ! fm (Compares 𝓤 H A mem run) known-a to-compare (and-then ! (load ! (from ! (stop !)) (look ! 19 refl)) (and-then ! (load ! (from ! (stop !)) (look ! 17 refl)) (no-more !))) (λ u.
         use1 W (later (some (λ (x : Compared). ((‵ (flft κ₀ q₀) ⊛ ‵ (flft κ₁ q₁) ⊛ ‵ ftrue) ⊛ ‵ (K.the-row .own x (u ∷ []))) ⊛ raw (ensured 𝓤 H A a.ended (a.clauses 𝓤 H A mem run) κs-a (iv, (sp, tt)) tt x)))) (id⊢ 𝓤 _) $ await ! tt $ pick ! (λ x.
-        split ! $ move ! (1 ∷ []) $ use1 W (raw (fact 𝓤 (Gives x found))) (compare-said x) $ heard ! (Gives x found) (λ ex. split ! $ move ! (1 ∷ []) $
+        split ! $ move ! (1 ∷ []) $ use1 W (raw (fact 𝓤 (GivesCompared x found))) (compare-said x) $ heard ! (GivesCompared x found) (λ ex. split ! $ move ! (1 ∷ []) $
         -- [the answer; two tokens; intervals; spans; _9; …; _0; …; the tokens of total, count and examples; total; count; examples]
         peeks ! K.the-row (Is K.the-row) (shows 𝓤 H A K.the-row) x (u ∷ []) (λ is.
         land ! (from ! (stop !)) (init ! 10 refl (LL.lawful K.the-type K′.the-laws 𝓤 H A W .typed x _ is .0)) $
@@ -217,7 +215,7 @@ module _ {M : Type 1} (𝓤 : URA M) (H : Heap 𝓤) (A : Atoms 𝓤) (W : Given
         move ! (17 ∷ 18 ∷ []) $ free1 ! $ move ! (15 ∷ 16 ∷ []) $ free1 ! $ move ! (13 ∷ 14 ∷ []) $ free1 ! $ move ! (11 ∷ 12 ∷ []) $ free1 ! $ move ! (9 ∷ 10 ∷ []) $ free1 ! $ free0 ! $
         -- [the result; three tokens; the last values: of examples; true; of count, and of total; two tokens; intervals; spans]
         keep ! (6 ∷ 1 ∷ 7 ∷ 8 ∷ 5 ∷ 4 ∷ 2 ∷ 0 ∷ []) $
-        by ! (exits r w (zs .1 .0) (zs .1 .1 .0) (zs .1 .1 .1 .0) (subst (λ (y : Answer PositionMismatch). Left y r (zs .1 .0) (zs .1 .1 .0) (zs .1 .1 .1 .0)) (ex .0) e)))))))))))))))))))))
+        by ! (exits r w (zs .1 .0) (zs .1 .1 .0) (zs .1 .1 .1 .0) (subst (λ (y : Answer PositionMismatch). Left y r (zs .1 .0) (zs .1 .1 .0) (zs .1 .1 .1 .0)) (ex .answer) e)))))))))))))))))))))
 
 module _ {M : Type 1} (𝓤 : URA M) (H : Heap 𝓤) (A : Atoms 𝓤) (W : Given 𝓤 H A) (mem : Memory → SProp 𝓤) (run : Routine → Fun 𝓤) where
   f-walks : (C : Calls 𝓤 H) (Λ : Loops 𝓤 H) → FmC 𝓤 H (W .laws) C → Triple 𝓤 (C #a) (Compares 𝓤 H A mem run) → Triple 𝓤 (C #g) (Reports 𝓤 H A mem run)

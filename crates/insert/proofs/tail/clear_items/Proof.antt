@@ -26,9 +26,10 @@ loop-again c =
     let size = turn .inv .0 in
     let wrote = rw (c .before .before .before .zero-item .ensures) at (c .before .before .write-item .ensures) in
     let more = c .before .before .before .before .before .loop-test .taken in
-    let fits = c .before .before .before .before .before .before .before .before .pre .1 in (
+    let start = c .before .before .before .before .before .before .before .before in
+    let fits = start .pre .1 in (
       ap length wrote ∙ length-with _ _ _ ∙ size,
-      turn .inv .1 ∙ clear-more _ _ _ more (rw size fits) ∙ ap (λ (l : List ℕ). cleared l (turn .i + 1) (c .before .before .before .before .before .before .before .before .args .to)) (sym wrote),
+      turn .inv .1 ∙ clear-more _ _ _ more (rw size fits) ∙ ap (λ (l : List ℕ). cleared l (turn .i + 1) (start .args .to)) (sym wrote),
     )
 
 same-length : tie.Need-same-length Inv-loop μ-loop

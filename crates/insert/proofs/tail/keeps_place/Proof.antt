@@ -4,7 +4,7 @@ use Rattle.insert.proofs.tail.keeps_place.Statement.{statement}
 use Rattle.insert.proofs.tail.keeps_place.Tie as tie
 
 returns : tie.Need-returns
-returns c = rw (c .is-less .ensures, c .before .order-items .ensures, c .before .before .is-staying .ensures, c .before .before .before .fate-of .ensures)
+returns c = rw (c .is-less .ensures, c .before .compare-items .ensures, c .before .before .is-staying .ensures, c .before .before .before .fate-of .ensures)
 
 pub keeps-place-spec : {M : Type 1} → statement M
 keeps-place-spec =

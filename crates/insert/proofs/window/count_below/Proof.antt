@@ -24,7 +24,7 @@ loop-again c =
     let low = turn .loop .low in
     let mid = low + (turn .loop .high - low) / 2 in
     halved-above _ _ _ _ _ _ mid (turn .before .before .before .pre) (turn .loop .inv) (omega arith) (omega arith) (item .item-at .ensures)
-    (rw (c .before .before .order-items .ensures) at (sym (c .before .is-less .ensures) ∙ c .if1 .taken))
+    (rw (c .before .before .compare-items .ensures) at (sym (c .before .is-less .ensures) ∙ c .if1 .taken))
 
 loop-again-2 : tie.Need-loop-again-2 Inv-loop μ-loop
 loop-again-2 c =
@@ -33,7 +33,7 @@ loop-again-2 c =
     let low = turn .loop .low in
     let mid = low + (turn .loop .high - low) / 2 in
     halved-below _ _ _ _ _ _ mid (turn .before .before .before .pre) (turn .loop .inv) (omega arith) (omega arith) (item .item-at .ensures)
-    (rw (c .before .before .order-items .ensures) at (sym (c .before .is-less .ensures) ∙ c .if1 .left))
+    (rw (c .before .before .compare-items .ensures) at (sym (c .before .is-less .ensures) ∙ c .if1 .left))
 
 returns : tie.Need-returns Inv-loop μ-loop
 returns c = halved-end _ _ _ _ _ _ (c .before .loop .inv) (c .loop-test .left)

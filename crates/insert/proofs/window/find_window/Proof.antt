@@ -1,6 +1,5 @@
 -- `insert::window::find_window` meets its contract: what stays on either side. Assumes nothing.
 use native.Mathlib.Omega.{arith}
-use borrow.Author.Needs.{needs}
 use Rattle.insert.proofs.Windows.{ascending}
 use Rattle.insert.proofs.window.find_window.Statement.{statement}
 use Rattle.insert.proofs.window.find_window.Tie as tie

@@ -8,7 +8,10 @@ returns : tie.Need-returns
 returns c = rw (← c .before .before .before .check-pool .ensures, c .before .r .given .1)
 
 returns-2 : tie.Need-returns-2
-returns-2 c = rw (← c .before .before .before .before .before .check-pool .ensures, c .before .before .before .enum-told .given .1) (c .check-two .ensures ∙ rw (c .before .before .upright-fault .ensures, c .before .upright-fault2 .ensures))
+returns-2 c =
+    let called = c .before .before in
+    rw (← called .before .before .before .check-pool .ensures, called .before .enum-told .given .1)
+    (c .check-two .ensures ∙ rw (called .upright-fault .ensures, c .before .upright-fault2 .ensures))
 
 pub check-pair-spec : {M : Type 1} → statement M
 check-pair-spec =

@@ -7,7 +7,17 @@ returns : tie.Need-returns
 returns c = rw (← c .before .before .before .check-pair .ensures, c .before .r .given .1)
 
 returns-2 : tie.Need-returns-2
-returns-2 c = rw (← c .before .before .before .before .before .before .before .check-pair .ensures, c .before .before .before .before .before .enum-told .given .1, c .intersect .ensures, c .before .to-range-set2 .ensures, c .before .before .query-item2 .ensures, c .before .before .before .to-range-set .ensures, c .before .before .before .before .query-item .ensures)
+returns-2 c =
+    let called = c .before .before .before in
+    rw (
+      ← called .before .before .before .before .check-pair .ensures,
+      called .before .before .enum-told .given .1,
+      c .intersect .ensures,
+      c .before .to-range-set2 .ensures,
+      c .before .before .query-item2 .ensures,
+      called .to-range-set .ensures,
+      called .before .query-item .ensures,
+    )
 
 pub intersect-items-spec : {M : Type 1} → statement M
 intersect-items-spec =

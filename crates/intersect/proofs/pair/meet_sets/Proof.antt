@@ -17,7 +17,16 @@ returns c =
 
 returns-2 : tie.Need-returns-2
 unfolding meetSets
-returns-2 c = rw (c .overlap-by .ensures, c .before .compare-in2 .ensures, c .before .before .compare-in .ensures, ← c .before .before .before .before .before .is-before .ensures, ← c .before .before .before .before .is-before2 .ensures, c .before .before .before .if1 .left)
+returns-2 c =
+    let called = c .before .before in
+    rw (
+      c .overlap-by .ensures,
+      c .before .compare-in2 .ensures,
+      called .compare-in .ensures,
+      ← called .before .before .before .is-before .ensures,
+      ← called .before .before .is-before2 .ensures,
+      called .before .if1 .left,
+    )
 
 pub meet-sets-spec : {M : Type 1} → statement M
 meet-sets-spec =

@@ -14,7 +14,10 @@ returns-2 c = rw (← c .before .before .before .is-before .ensures, c .before .
 
 returns-3 : tie.Need-returns-3
 unfolding rightOver
-returns-3 c = rw (← c .before .before .before .before .is-before .ensures, c .before .before .before .if1 .left, ← c .before .before .is-before2 .ensures, c .before .if2 .left) (c .right-part .ensures)
+returns-3 c =
+    let called = c .before .before in
+    rw (← called .before .before .is-before .ensures, called .before .if1 .left, ← called .is-before2 .ensures, c .before .if2 .left)
+    (c .right-part .ensures)
 
 pub right-over-spec : {M : Type 1} → statement M
 right-over-spec =

@@ -45,5 +45,5 @@ rewrite-list-spec =
     add-i
     (λ c. search needs)
     loop-again
-    (λ c. search needs)
+    (λ c. c .before .loop .inv .left .same)
     returns)

@@ -11,7 +11,10 @@ returns c = gathers-empty _ _ _ _ _ _ (c .before .before .before .before .before
 
 entry-at-requires : tie.Need-entry-at-requires
 entry-at-requires c κs =
-    search-at (searchable _ _ _ _ _ _ (c .before .before .before .before .before .before .before .before .before .before .before .before .before .before .pre)) _ (there-below _ _ _ _ _ (sym (c .before .before .before .is-there .ensures) ∙ c .before .before .if2 .taken))
+    let there = c .before .before in
+    let spot = there .before .before .before .before in
+    let start = spot .before .before .before .before .before .before .before .before in
+    search-at (searchable _ _ _ _ _ _ (start .pre)) _ (there-below _ _ _ _ _ (sym (there .before .is-there .ensures) ∙ there .if2 .taken))
 
 returns-2 : tie.Need-returns-2
 returns-2 c =

@@ -3,7 +3,6 @@
 use Prim.Native.Nat.{_-_}
 use native.Mathlib.Omega.{arith}
 use lib.ListN.{length}
-use denote.Ref.{now}
 use borrow.Author.Tests.{not-true, not-false}
 use Rattle.position_report.specs.Reports.{reportOf}
 use Rattle.position_report.specs.Inner.{reportWith}
@@ -20,27 +19,27 @@ abbrev μ-loop : tie.MeasureT-loop
 
 loop-holds : tie.Need-loop-holds Inv-loop μ-loop
 unfolding reportOf
-loop-holds c =
-    let s = c .before .before in
-    sorted-start (now (s .args .intervals)) (now (s .args .proved)) (s .pre .0) (s .pre .1)
+loop-holds c = sorted-start (c .before .before .pre .0) (c .before .before .pre .1)
 
 loop-again : tie.Need-loop-again Inv-loop μ-loop
 loop-again c =
-    let s = c .before .before .before .before .before .before .before .before .before .before in
-    let l = c .before .before .before .before .before .before .before .loop in
-    sorted-extra (now (s .args .intervals)) (now (s .args .proved)) (s .pre .0) (reportWith (l .counted) (l .examples)) (l .pair) (l .i) (c .before .before .before .before .first-past .result) (c .before .before .before .starts-by .result) (l .inv) (c .before .before .before .before .before .before .loop-test .taken) (c .before .before .before .before .first-past .ensures) (c .before .before .before .starts-by .ensures) (reportWith (c .push-one .result) (c .push-one .last .0)) (not-true _ (c .before .before .if1 .taken)) (omega arith) (c .push-one .ensures)
+    let starts = c .before .before .before in
+    let past = starts .before in
+    let turn = past .before .before in
+    let at = turn .before in
+    sorted-extra (at .before .before .before .pre .0) (at .loop .inv) (turn .loop-test .taken) (past .first-past .ensures) (starts .starts-by .ensures)
+    (not-true _ (c .before .before .if1 .taken)) (omega arith) (c .push-one .ensures)
 
 loop-again-2 : tie.Need-loop-again-2 Inv-loop μ-loop
 loop-again-2 c =
-    let s = c .before .before .before .before .before .before .before .before in
-    let l = c .before .before .before .before .before .loop in
-    sorted-held (now (s .args .intervals)) (now (s .args .proved)) (s .pre .0) (reportWith (l .counted) (l .examples)) (l .pair) (l .i) (c .before .before .first-past .result) (c .before .starts-by .result) (l .inv) (c .before .before .before .before .loop-test .taken) (c .before .before .first-past .ensures) (c .before .starts-by .ensures) (not-false _ (c .if1 .left))
+    let past = c .before .before in
+    let turn = past .before .before in
+    let at = turn .before in
+    sorted-held (at .before .before .before .pre .0) (at .loop .inv) (turn .loop-test .taken) (past .first-past .ensures) (c .before .starts-by .ensures)
+    (not-false _ (c .if1 .left))
 
 returns : tie.Need-returns Inv-loop μ-loop
-returns c =
-    let s = c .before .before .before .before in
-    let l = c .before .loop in
-    sorted-end (now (s .args .intervals)) (now (s .args .proved)) (s .pre .0) (reportWith (l .counted) (l .examples)) (l .pair) (l .i) (l .inv) (c .loop-test .left)
+returns c = sorted-end (c .before .before .before .before .pre .0) (c .before .loop .inv) (c .loop-test .left)
 
 pub extra-positions-spec : {M : Type 1} → statement M
 extra-positions-spec =

@@ -10,15 +10,16 @@ missing-positions-requires c κs = sound-proved _ _ _ (c .before .before .check-
 
 returns : tie.Need-returns
 returns c =
-    let w = c .without-report in
-    (rw (← c .before .before .before .before .check-proved .ensures, c .before .before .r .given .1, w .ensures .0), rw (← c .before .before .before .before .check-proved .ensures, c .before .before .r .given .1) (w .ensures .1))
+    let checked = c .before .before .before .before .check-proved .ensures in
+    let given = c .before .before .r .given .1 in
+    record { answer = rw (← checked, given, c .without-report .ensures .0); report = rw (← checked, given) (c .without-report .ensures .1) }
 
 returns-2 : tie.Need-returns-2
 returns-2 c =
-    let w = c .with-report in (
-      rw (← c .before .before .before .before .check-proved .ensures, c .before .before .enum-told .given .1, w .ensures .0, w .ensures .1, c .before .missing-positions .ensures),
-      rw (← c .before .before .before .before .check-proved .ensures, c .before .before .enum-told .given .1) (w .ensures .1 ∙ c .before .missing-positions .ensures),
-    )
+    let checked = c .before .before .before .before .check-proved .ensures in
+    let given = c .before .before .enum-told .given .1 in
+    let report = c .with-report .ensures .1 ∙ c .before .missing-positions .ensures in
+    record { answer = rw (← checked, given, c .with-report .ensures .0, report); report = rw (← checked, given) report }
 
 pub missing-from-spec : {M : Type 1} → statement M
 missing-from-spec =

@@ -1,10 +1,9 @@
 -- `missing_positions` meets its contract. The invariant is `Seen`: the positions before i are proved, and the others stand ahead of the walk. The
 -- measure is how many positions are left. Assumes nothing.
-use Prim.Native.Nat.{_+_, _-_}
-use mathlib.Core.Path.{sym, ap, subst, _∙_}
+use Prim.Native.Nat.{_-_}
+use mathlib.Core.Path.{ap, _∙_}
 use native.Mathlib.Omega.{arith}
 use lib.ListN.{length}
-use denote.Ref.{now}
 use Rattle.position_report.specs.declared.PositionMismatch.{PositionMismatch}
 use Rattle.position_report.specs.Reports.{reportOf}
 use Rattle.position_mismatch.specs.declared.Walk.{Walk}
@@ -22,23 +21,21 @@ abbrev μ-loop : tie.MeasureT-loop
 
 loop-holds : tie.Need-loop-holds Inv-loop μ-loop
 unfolding reportOf
-loop-holds c =
-    let s = c .before .before in
-    seen-start (now (s .args .intervals)) (now (s .args .proved)) (s .pre .0) (s .pre .1)
+loop-holds c = seen-start (c .before .before .pre .0) (c .before .before .pre .1)
 
 loop-again : tie.Need-loop-again Inv-loop μ-loop
 loop-again c =
-    let s = c .before .before .before .before .before .before .before .before in
-    let l = c .before .before .before .before .before .loop in
-    subst (λ (w : Walk). Seen (now (s .args .intervals)) (now (s .args .proved)) w (l .i + 1)) (sym (c .over-span .ensures))
-    (seen-more (now (s .args .intervals)) (now (s .args .proved)) (s .pre .0) (walkWith (l .place) (l .examples)) (l .i) (c .before .after .result) (record { fits = λ k. omega (arith, c .before .before .before .shared-slice-known3 .given k) }) (l .inv) (c .before .before .before .before .loop-test .taken) (c .before .after .ensures))
+    let known = c .before .before .before in
+    let at = known .before .before in
+    seen-more (at .before .before .before .pre .0) (record { fits = λ k. omega (arith, known .shared-slice-known3 .given k) }) (at .loop .inv)
+    (known .before .loop-test .taken) (c .before .saturating-add .ensures) (c .over-span .ensures)
 
 returns : tie.Need-returns Inv-loop μ-loop
 returns c =
-    let s = c .before .before .before .before .before .before in
-    let l = c .before .before .before .loop in
+    let at = c .before .before .before in
+    let known = at .before .before in
     ap {B = PositionMismatch} (λ (w : Walk). w .report) (c .report-until .ensures)
-    ∙ seen-end (now (s .args .intervals)) (now (s .args .proved)) (s .pre .0) (walkWith (l .place) (l .examples)) (l .i) (record { fits = λ k. omega (arith, c .before .before .before .before .before .shared-slice-known .given k) }) (l .inv) (c .before .before .loop-test .left)
+    ∙ seen-end (known .before .pre .0) (record { fits = λ k. omega (arith, known .shared-slice-known .given k) }) (at .loop .inv) (c .before .before .loop-test .left)
 
 pub missing-positions-spec : {M : Type 1} → statement M
 missing-positions-spec =

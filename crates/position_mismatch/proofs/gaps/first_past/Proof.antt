@@ -6,7 +6,7 @@ use native.Mathlib.Omega.{arith}
 use lib.ListN.{length}
 use denote.Ref.{now}
 use Rattle.pairs_sort.specs.Pairs.{finish}
-use Rattle.position_mismatch.proofs.Turns.{passed-more}
+use Rattle.position_given.proofs.Indexes.{index-after}
 use borrow.Author.Needs.{needs}
 use Rattle.position_mismatch.proofs.gaps.first_past.Statement.{statement}
 use Rattle.position_mismatch.proofs.gaps.first_past.Tie as tie
@@ -26,8 +26,10 @@ returns c = record { after = c .before .before .before .loop .inv .1; passed = c
 
 loop-again : tie.Need-loop-again Inv-loop μ-loop
 loop-again c =
-    let l = c .before .before .before .loop in
-    (search needs, search needs, passed-more (now (c .before .before .before .before .args .intervals)) (c .before .before .before .before .args .from) (l .i) (c .before .before .before .before .args .p) (l .inv .2) (c .if1 .left))
+    let at-loop = c .before .before .before in
+    let start = at-loop .before in
+    let l = at-loop .loop in
+    (search needs, search needs, index-after (λ k. finish (now (start .args .intervals)) k ≤ start .args .p) _ (l .i) (l .inv .2) (c .if1 .left))
 
 returns-2 : tie.Need-returns-2 Inv-loop μ-loop
 returns-2 c = record { after = c .before .loop .inv .1; passed = c .before .loop .inv .2; found = λ h. absurd (omega arith) }

@@ -25,22 +25,28 @@ loop-holds c = (search needs, refl)
 
 returns : tie.Need-returns Inv-loop μ-loop
 returns c =
-    let l = c .before .before .before .before .before .before .before .before .loop in
-    let a = c .before .before .before .before .before .before .before .before .before .before .args in
+    let at-larger = c .before .before .before .before .before in
+    let at-loop-test = at-larger .before .before in
+    let at-loop = at-loop-test .before in
+    let l = at-loop .loop in
+    let a = at-loop .before .before .args in
     sym (l .inv .1 ∙ until-stop (now (a .intervals)) (length (now (a .intervals)) / 2) (l .i) (a .place .from) (a .to) (reportWith (l .counted) (l .examples))
-    (c .before .before .before .before .before .larger .result) (c .before .before .smaller .result) (reportWith (c .before .push-run .result) (c .before .push-run .last .0))
-    (c .before .before .before .before .before .larger .ensures) (c .before .before .smaller .ensures) (c .before .push-run .ensures)
-    (c .before .before .before .before .before .before .before .loop-test .taken) (c .if1 .taken))
+    (at-larger .larger .result) (c .before .before .smaller .result) (reportWith (c .before .push-run .result) (c .before .push-run .last .0))
+    (at-larger .larger .ensures) (c .before .before .smaller .ensures) (c .before .push-run .ensures)
+    (at-loop-test .loop-test .taken) (c .if1 .taken))
 
 loop-again : tie.Need-loop-again Inv-loop μ-loop
 loop-again c =
-    let l = c .before .before .before .before .before .before .before .before .loop in
-    let a = c .before .before .before .before .before .before .before .before .before .before .args in (
+    let at-larger = c .before .before .before .before .before in
+    let at-loop-test = at-larger .before .before in
+    let at-loop = at-loop-test .before in
+    let l = at-loop .loop in
+    let a = at-loop .before .before .args in (
       search needs,
       l .inv .1 ∙ until-next (now (a .intervals)) (length (now (a .intervals)) / 2) (l .i) (a .place .from) (a .to) (reportWith (l .counted) (l .examples))
-          (c .before .before .before .before .before .larger .result) (c .before .before .smaller .result) (reportWith (c .before .push-run .result) (c .before .push-run .last .0))
-          (c .before .before .before .before .before .larger .ensures) (c .before .before .smaller .ensures) (c .before .push-run .ensures)
-          (c .before .before .before .before .before .before .before .loop-test .taken) (c .if1 .left),
+          (at-larger .larger .result) (c .before .before .smaller .result) (reportWith (c .before .push-run .result) (c .before .push-run .last .0))
+          (at-larger .larger .ensures) (c .before .before .smaller .ensures) (c .before .push-run .ensures)
+          (at-loop-test .loop-test .taken) (c .if1 .left),
     )
 
 returns-2 : tie.Need-returns-2 Inv-loop μ-loop

@@ -61,18 +61,23 @@ returns-4 c =
 
 next-missing-requires-3 : tie.Need-next-missing-requires-3 Inv-loop μ-loop
 next-missing-requires-3 c κs =
-    let at = c .before .before .before .before .before .before .before .before .before .before in
-    let last = c .before .before .next-missing2 in
-    let e = finish (now (at .before .before .before .before .before .args .windows)) (at .loop .i) in
-    let ends = is-at (last .result) (e - 1) (sym (c .before .starts-at2 .ensures) ∙ not-false _ (c .if4 .left)) in
-    search-on (at .before .before .before .before .before .pre) (last .ensures .run) (omega (arith, ends))
+    let asked = c .before .before in
+    let last = asked .next-missing2 in
+    let at = asked .before .before .before .before .before .before .before .before in
+    let begin = at .before .before .before .before .before in
+    let ends = is-at (last .result) (finish (now (begin .args .windows)) (at .loop .i) - 1) (sym (c .before .starts-at2 .ensures) ∙ not-false _ (c .if4 .left)) in
+    search-on (begin .pre) (last .ensures .run) (omega (arith, ends))
 
 loop-again : tie.Need-loop-again Inv-loop μ-loop
 loop-again c =
-    let at = c .before .before .before .before .before .before .before .before .before .before .before in
-    let narrow = c .before .before .before .before .before .before in
-    judges-more (at .loop .inv) (c .before .before .before .before .before .before .before .before .before .before .loop-test .taken) (c .before .before .before .next-missing2 .ensures)
-    (sym (c .before .before .before .before .before .starts-at .ensures) ∙ not-false _ (c .before .before .before .before .if3 .left))
+    let at-next-missing2 = c .before .before .before in
+    let at-if3 = at-next-missing2 .before in
+    let at-starts-at = at-if3 .before in
+    let narrow = at-starts-at .before in
+    let at-loop-test = narrow .before .before .before .before in
+    let at = at-loop-test .before in
+    judges-more (at .loop .inv) (at-loop-test .loop-test .taken) (at-next-missing2 .next-missing2 .ensures)
+    (sym (at-starts-at .starts-at .ensures) ∙ not-false _ (at-if3 .if3 .left))
     (narrow .before .if1 .left)
     (narrow .if2 .left)
     (sym (c .before .before .starts-at2 .ensures) ∙ not-false _ (c .before .if4 .left))

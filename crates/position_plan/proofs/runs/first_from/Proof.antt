@@ -4,7 +4,7 @@ use Prim.Native.Nat.{ℕ, _-_, _≤_, _<_}
 use native.Mathlib.Omega.{arith}
 use lib.ListN.{length, getD}
 use denote.Ref.{now}
-use Rattle.position_plan.proofs.Search.{below-more}
+use Rattle.position_given.proofs.Indexes.{index-after}
 use borrow.Author.Needs.{needs}
 use Rattle.position_plan.proofs.runs.first_from.Statement.{statement}
 use Rattle.position_plan.proofs.runs.first_from.Tie as tie
@@ -25,7 +25,7 @@ loop-again : tie.Need-loop-again Inv-loop μ-loop
 loop-again c =
     let l = c .before .before .before .loop in
     let a = c .before .before .before .before .args in
-    (search needs, below-more (now (a .proved)) (a .from) (l .i) (a .x) (l .inv .1) (c .if1 .left))
+    (search needs, index-after (λ k. getD (now (a .proved)) k 0 < a .x) _ (l .i) (l .inv .1) (c .if1 .left))
 
 returns-2 : tie.Need-returns-2 Inv-loop μ-loop
 returns-2 c = record { after = c .before .loop .inv .0; passed = c .before .loop .inv .1; found = λ h. absurd (omega arith) }

@@ -6,7 +6,7 @@ use native.Mathlib.Omega.{arith}
 use lib.ListN.{getD}
 use denote.Ref.{now}
 use borrow.Author.Needs.{needs}
-use Rattle.position_plan.proofs.Back.{rows-back}
+use Rattle.position_given.proofs.Indexes.{index-before}
 use Rattle.position_plan.proofs.runs.goes_back.Statement.{statement}
 use Rattle.position_plan.proofs.runs.goes_back.Tie as tie
 
@@ -53,7 +53,7 @@ loop-again c =
       search needs,
       omega (arith, l .inv .1, l .inv .0, c .before .before .if1 .left, turn .loop-test .taken),
       λ h. omega (arith, c .before .before .if1 .left),
-      rows-back (now (a .proved)) (a .to) (a .e) (l .i) (l .inv .3) (turn .loop-test .taken) row,
+      index-before (λ k. getD (now (a .proved)) k 0 + (a .to - k) ≡ a .e) _ (l .i) (l .inv .3) (turn .loop-test .taken) row,
     )
 
 -- no position is left

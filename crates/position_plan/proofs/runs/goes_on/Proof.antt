@@ -6,7 +6,8 @@ use native.Mathlib.Omega.{arith}
 use lib.ListN.{length, getD}
 use denote.Ref.{now}
 use borrow.Author.Needs.{needs}
-use Rattle.position_plan.proofs.Search.{rows-more, goes-further, goes-no-further}
+use Rattle.position_given.proofs.Indexes.{index-after}
+use Rattle.position_plan.proofs.Search.{goes-further, goes-no-further}
 use Rattle.position_plan.proofs.runs.goes_on.Statement.{statement}
 use Rattle.position_plan.proofs.runs.goes_on.Tie as tie
 
@@ -46,7 +47,8 @@ loop-again c =
       search needs,
       omega (arith, l .inv .1),
       λ h. omega (arith, next .0),
-      rows-more (now (a .proved)) (a .from) (a .s) (l .i) (l .inv .3) (c .before .before .loop-test .taken) (omega (arith, next .1, l .inv .1)),
+      index-after (λ k. (k < length (now (a .proved))) × (getD (now (a .proved)) k 0 ≡ a .s + (k - a .from))) _ (l .i) (l .inv .3)
+          (c .before .before .loop-test .taken, omega (arith, next .1, l .inv .1)),
     )
 
 -- no position is left

@@ -5,7 +5,7 @@ use native.Mathlib.Omega.{arith}
 use lib.ListN.{getD}
 use denote.Ref.{now}
 use borrow.Author.Needs.{needs}
-use Rattle.position_plan.proofs.Back.{passed-back}
+use Rattle.position_given.proofs.Indexes.{index-before}
 use Rattle.position_plan.proofs.runs.last_below.Statement.{statement}
 use Rattle.position_plan.proofs.runs.last_below.Tie as tie
 
@@ -27,7 +27,7 @@ loop-again : tie.Need-loop-again Inv-loop μ-loop
 loop-again c =
     let at = c .before .before .before in
     let a = at .before .args in
-    (search needs, passed-back (now (a .proved)) (a .to) (at .loop .i) (a .x) (at .loop .inv .1) (c .before .before .loop-test .taken) (c .if1 .left))
+    (search needs, index-before (λ k. a .x ≤ getD (now (a .proved)) k 0) _ (at .loop .i) (at .loop .inv .1) (c .before .before .loop-test .taken) (c .if1 .left))
 
 -- no position is left
 returns-2 : tie.Need-returns-2 Inv-loop μ-loop

@@ -13,7 +13,7 @@ returns : tie.Need-returns
 returns c =
     let begin = c .before .before .before .before .before .before in
     let U : Words (now (begin .args .intervals)) = record { fits = λ k. omega (arith, c .before .before .before .before .before .shared-slice-known .given k) } in
-    rw (c .cut .ensures) (window-cut U (begin .pre) (c .before .before .before .reach .ensures) (c .before .if1 .taken))
+    rw (c .cut .ensures) (window-cut U (begin .pre) (c .before .before .before .saturating-add .ensures) (c .before .if1 .taken))
 
 next-missing-requires : tie.Need-next-missing-requires
 next-missing-requires c κs =
@@ -25,7 +25,7 @@ returns-2 : tie.Need-returns-2
 returns-2 c =
     let begin = c .before .before .before .before .before .before .before .before in
     let U : Words (now (begin .args .intervals)) = record { fits = λ k. omega (arith, c .before .before .before .before .before .before .before .shared-slice-known .given k) } in
-    window-alone U (begin .pre) (c .before .before .before .before .before .reach .ensures) (c .before .before .before .if1 .left) (c .before .before .next-missing .ensures) (c .if2 .taken)
+    window-alone U (begin .pre) (c .before .before .before .before .before .saturating-add .ensures) (c .before .before .before .if1 .left) (c .before .before .next-missing .ensures) (c .if2 .taken)
 
 next-missing-requires-2 : tie.Need-next-missing-requires-2
 next-missing-requires-2 c κs =
@@ -40,10 +40,12 @@ last-missing-requires c κs =
 -- others are
 returns-3 : tie.Need-returns-3
 returns-3 c =
-    let begin = c .before .before .before .before .before .before .before .before .before .before in
+    let at-reach = c .before .before .before .before .before .before .before in
+    let at-shared-slice-known = at-reach .before .before in
+    let begin = at-shared-slice-known .before in
     let a = begin .args in
-    let reached = c .before .before .before .before .before .before .before .reach in
-    let U : Words (now (a .intervals)) = record { fits = λ k. omega (arith, c .before .before .before .before .before .before .before .before .before .shared-slice-known .given k) } in
+    let reached = at-reach .saturating-add in
+    let U : Words (now (a .intervals)) = record { fits = λ k. omega (arith, at-shared-slice-known .shared-slice-known .given k) } in
     let last : LastRow (now (a .intervals)) (now (a .proved)) (reached .result) (c .last-missing .result) = c .last-missing .ensures in
     window-found U (begin .pre) (reached .ensures) last (c .before .next-missing2 .ensures)
 

@@ -28,9 +28,10 @@ returns c =
 -- they do not fit
 returns-2 : tie.Need-returns-2
 returns-2 c =
-    let a = c .before .before .before .before .before .args in
-    let none = fitted-none (length (now (a .out)) / 2) (planOf (a .most) (now (a .intervals)) (now (a .proved))) (sym (c .before .has-room .ensures) ∙ c .if1 .left) in
-    record { answer = rw none; words = rw none }
+    let asked = c .before in
+    let a = asked .before .before .before .before .before .args in
+    let none = fitted-none (length (now (a .out)) / 2) (planOf (a .most) (now (a .intervals)) (now (a .proved))) (sym (asked .before .has-room .ensures) ∙ asked .if1 .left) in
+    record { answer = rw (c .refusal-of .ensures, none); words = rw none }
 
 pub plan-given-spec : {M : Type 1} → statement M
-plan-given-spec = tie.close (tie.spec (λ c κs. search needs) write-windows-requires (λ c. search needs) returns returns-2)
+plan-given-spec = tie.close (tie.spec (λ c κs. search needs) write-windows-requires (λ c. search needs) returns (λ c κs. search needs) returns-2)

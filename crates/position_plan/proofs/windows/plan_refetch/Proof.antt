@@ -24,7 +24,7 @@ returns : tie.Need-returns
 returns c =
     let sized = c .before .before .before in
     let a = sized .before .before .before .before .args in
-    intervals-refused (now (a .intervals)) (now (a .proved)) (a .most .0) (now (a .out)) _ _ _ (sym (ap lengthOf (c .before .r .given .1)) ∙ sized .len .ensures)
+    intervals-refused (now (a .intervals)) (now (a .proved)) (a .most .0) (now (a .out)) _ (sym (ap lengthOf (c .before .r .given .1)) ∙ sized .len .ensures)
 
 -- what is asked is
 returns-2 : tie.Need-returns-2
@@ -34,7 +34,7 @@ returns-2 c =
     let sized = told .before .before in
     let a = sized .before .before .before .before .args in
     let counted = sym (ap lengthOf (told .covered .given .1)) ∙ sized .len .ensures in
-    asked-refused (now (a .intervals)) (now (a .proved)) (a .most .0) (now (a .out)) _ counted _ _ _ (sym (ap verdictOf (c .before .r2 .given .1)) ∙ asked .check-asked .ensures)
+    asked-refused (now (a .intervals)) (now (a .proved)) (a .most .0) (now (a .out)) _ counted _ (sym (ap verdictOf (c .before .r2 .given .1)) ∙ asked .check-asked .ensures)
 
 returns-3 : tie.Need-returns-3
 returns-3 c =

@@ -33,21 +33,21 @@ returns c =
 next-missing-requires-2 : tie.Need-next-missing-requires-2 Inv-loop μ-loop
 next-missing-requires-2 c κs =
     let at = c .before .before .before .before in
-    search-on (at .before .before .before .before .pre) (at .loop .inv .0 .run) (omega (arith, c .reach .ensures, c .before .before .before .struct-known .given))
+    search-on (at .before .before .before .before .pre) (at .loop .inv .0 .run) (omega (arith, c .saturating-add .ensures, c .before .before .before .struct-known .given))
 
 loop-less : tie.Need-loop-less Inv-loop μ-loop
 loop-less c =
     let at = c .before .before .before .before .before in
     let begin = at .before .before .before .before in
     let U : Words (now (begin .args .intervals)) = record { fits = λ k. omega (arith, at .before .before .before .shared-slice-known .given k) } in
-    counted-fewer (begin .pre) (at .loop .inv .0) U (c .before .before .before .if1 .taken) (c .before .reach .ensures) (c .next-missing2 .ensures)
+    counted-fewer (begin .pre) (at .loop .inv .0) U (c .before .before .before .if1 .taken) (c .before .saturating-add .ensures) (c .next-missing2 .ensures)
 
 loop-again : tie.Need-loop-again Inv-loop μ-loop
 loop-again c =
     let at = c .before .before .before .before .before in
     let begin = at .before .before .before .before in
     let U : Words (now (begin .args .intervals)) = record { fits = λ k. omega (arith, at .before .before .before .shared-slice-known .given k) } in
-    (counted-more (begin .pre) (at .loop .inv .0) U (c .before .before .before .if1 .taken) (c .before .reach .ensures) (c .next-missing2 .ensures), search needs)
+    (counted-more (begin .pre) (at .loop .inv .0) U (c .before .before .before .if1 .taken) (c .before .saturating-add .ensures) (c .next-missing2 .ensures), search needs)
 
 -- no window is left
 returns-2 : tie.Need-returns-2 Inv-loop μ-loop

@@ -15,8 +15,10 @@ use Rattle.position_query.proofs.query.build.Tie as tie
 
 returns : tie.Need-returns
 returns c =
-    let a = c .before .before .before .before .before .args in
-    build-short (now (a .pool)) (now (a .items)) (a .count) (now (a .out)) (leb-false _ _ (sym (c .before .has-room .ensures) ∙ not-true _ (c .if1 .taken)))
+    let room = c .before in
+    let a = room .before .before .before .before .before .args in
+    rw (c .no-room .ensures)
+    (build-short (now (a .pool)) (now (a .items)) (a .count) (now (a .out)) (leb-false _ _ (sym (room .before .has-room .ensures) ∙ not-true _ (room .if1 .taken))))
 
 count-front-requires : tie.Need-count-front-requires
 count-front-requires c κs =
@@ -58,6 +60,7 @@ pub build-spec : {M : Type 1} → statement M
 build-spec =
     tie.close
     (tie.spec
+    (λ c κs. search needs)
     (λ c κs. search needs)
     returns
     (λ c κs. search needs)

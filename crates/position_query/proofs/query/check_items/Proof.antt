@@ -28,11 +28,13 @@ returns c =
     ∙ bad-here _ _ _ _ _ (c .before .before .before .before .loop-test .taken) (c .before .before .position-fault .ensures ∙ rw (c .before .before .before .item-at .ensures)) (c .before .if1 .taken))
 
 loop-again : tie.Need-loop-again Inv-loop μ-loop
-loop-again c = (
-  search needs,
-  search needs,
-  c .before .before .before .before .loop .inv .2 ∙ bad-next _ _ _ _ _ (c .before .before .before .loop-test .taken) (c .before .position-fault .ensures ∙ rw (c .before .before .item-at .ensures)) (c .if1 .left),
-)
+loop-again c =
+    let at-loop-test = c .before .before .before in
+    let at-loop = at-loop-test .before in (
+      search needs,
+      search needs,
+      at-loop .loop .inv .2 ∙ bad-next _ _ _ _ _ (at-loop-test .loop-test .taken) (c .before .position-fault .ensures ∙ rw (c .before .before .item-at .ensures)) (c .if1 .left),
+    )
 
 returns-2 : tie.Need-returns-2 Inv-loop μ-loop
 returns-2 c = sym (c .before .loop .inv .2 ∙ bad-end _ _ _ _ _ (c .loop-test .left))

@@ -7,10 +7,16 @@ returns : tie.Need-returns
 returns c = rw (← c .before .before .before .check-pool .ensures, c .before .r .given .1)
 
 returns-2 : tie.Need-returns-2
-returns-2 c = rw (← c .before .before .before .before .before .before .check-pool .ensures, c .before .before .before .before .enum-told .given .1, ← c .before .before .before .check-shape .ensures, c .before .r2 .given .1)
+returns-2 c =
+    let at-check-shape = c .before .before .before in
+    let at-enum-told = at-check-shape .before in
+    rw (← at-enum-told .before .before .check-pool .ensures, at-enum-told .enum-told .given .1, ← at-check-shape .check-shape .ensures, c .before .r2 .given .1)
 
 returns-3 : tie.Need-returns-3
-returns-3 c = rw (← c .before .before .before .before .before .before .check-pool .ensures, c .before .before .before .before .enum-told .given .1, ← c .before .before .before .check-shape .ensures, c .before .enum-told2 .given .1) (c .check-items .ensures)
+returns-3 c =
+    let at-check-shape = c .before .before .before in
+    let at-enum-told = at-check-shape .before in
+    rw (← at-enum-told .before .before .check-pool .ensures, at-enum-told .enum-told .given .1, ← at-check-shape .check-shape .ensures, c .before .enum-told2 .given .1) (c .check-items .ensures)
 
 pub check-query-spec : {M : Type 1} → statement M
 check-query-spec =

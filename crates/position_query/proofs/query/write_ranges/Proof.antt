@@ -3,7 +3,6 @@
 use Prim.Native.Nat.{_-_, _/_}
 use mathlib.Core.Path.{_≡_}
 use lib.ListN.{length}
-use denote.Ref.{now}
 use Rattle.query_item.specs.Items.{itemSize}
 use Rattle.position_query.proofs.Builds.{Counted, counted-start, counted-some, counted-none, counted-all, counted-written}
 use borrow.Author.Needs.{needs}
@@ -24,22 +23,18 @@ loop-again c =
     let p = c .before .before .push-pair in
     let taken = c .before .before .before .before in
     let turn = taken .before .before in
-    let l = turn .before .before .loop in
-    let a = turn .before .before .before .before .before .before .args in (
+    let l = turn .before .before .loop in (
       search needs,
-      counted-some (now (a .pool)) (a .count) (now (a .items)) (now (a .out)) (l .out) (length (now (a .items)) / 6) (l .k) (l .i) (l .inv .1)
-          (turn .clip-at .result .start) (turn .clip-at .result .end) (turn .clip-at .ensures) (turn .before .loop-test .taken)
+      counted-some (l .inv .1) (turn .clip-at .result .start) (turn .clip-at .result .end) (turn .clip-at .ensures) (turn .before .loop-test .taken)
           (taken .if1 .taken) (p .last .0) (p .result) (p .ensures .0) (p .ensures .1),
     )
 
 loop-again-2 : tie.Need-loop-again-2 Inv-loop μ-loop
 loop-again-2 c =
     let turn = c .before .before in
-    let l = turn .before .before .loop in
-    let a = turn .before .before .before .before .before .before .args in (
+    let l = turn .before .before .loop in (
       search needs,
-      counted-none (now (a .pool)) (a .count) (now (a .items)) (now (a .out)) (l .out) (length (now (a .items)) / 6) (l .k) (l .i) (l .inv .1)
-          (turn .clip-at .result .start) (turn .clip-at .result .end) (turn .clip-at .ensures) (turn .before .loop-test .taken) (c .if1 .left),
+      counted-none (l .inv .1) (turn .clip-at .result .start) (turn .clip-at .result .end) (turn .clip-at .ensures) (turn .before .loop-test .taken) (c .if1 .left),
     )
 
 same-length : tie.Need-same-length Inv-loop μ-loop
@@ -48,7 +43,7 @@ same-length c = c .before .loop .inv .1 .size
 returns : tie.Need-returns Inv-loop μ-loop
 returns c =
     let C = c .before .loop .inv .1 in
-    (counted-all _ _ _ _ _ _ _ _ C (c .loop-test .left), counted-written _ _ _ _ _ _ _ _ C (c .loop-test .left))
+    (counted-all C (c .loop-test .left), counted-written C (c .loop-test .left))
 
 pub write-ranges-spec : {M : Type 1} → statement M
 write-ranges-spec =

@@ -23,8 +23,8 @@ returns-2 c =
     let place = grown .before .before in
     let some = place .before .before in
     let start = some .before .before in
-    let is = cover-is _ _ _ _ _ (start .pre) (some .if1 .left) _ (place .ends-below .ensures) _ _ _ _ (grown .grow .ensures) in
-    let size = cover-length _ _ _ _ _ (start .pre) (some .if1 .left) _ (place .ends-below .ensures) _ _ _ _ (grown .grow .ensures) in
+    let is = cover-is (start .pre) (some .if1 .left) (place .ends-below .ensures) (grown .grow .ensures) in
+    let size = cover-length (start .pre) (some .if1 .left) (place .ends-below .ensures) (grown .grow .ensures) in
     let a = start .args in (
       c .no-room .ensures ∙ none-answer (now (a .words)) (a .count) _ _ _ is size (c .before .if2 .taken),
       none-words (now (a .words)) (a .count) _ _ _ is size (c .before .if2 .taken),
@@ -36,7 +36,7 @@ sub-stored c =
     let place = grown .before .before in
     let some = place .before .before in
     let start = some .before .before in
-    omega (arith, cover-gone _ _ _ _ _ (start .pre) (some .if1 .left) _ (place .ends-below .ensures) _ _ _ _ (grown .grow .ensures))
+    omega (arith, cover-gone (start .pre) (some .if1 .left) (place .ends-below .ensures) (grown .grow .ensures))
 
 add-stored : tie.Need-add-stored
 add-stored c =
@@ -46,7 +46,7 @@ add-stored c =
     let start = some .before .before in
     omega (
       arith,
-      cover-fits _ _ _ _ _ (start .pre) (some .if1 .left) _ (place .ends-below .ensures) _ _ _ _ (grown .grow .ensures)
+      cover-fits (start .pre) (some .if1 .left) (place .ends-below .ensures) (grown .grow .ensures)
           (record { fits = λ k. omega (arith, some .before .slice-known .given k) }) (omega (arith, start .fits .e)),
     )
 
@@ -58,9 +58,9 @@ returns-3 c =
     let place = grown .before .before in
     let some = place .before .before in
     let start = some .before .before in
-    let is = cover-is _ _ _ _ _ (start .pre) (some .if1 .left) _ (place .ends-below .ensures) _ _ _ _ (grown .grow .ensures) in
-    let size = cover-length _ _ _ _ _ (start .pre) (some .if1 .left) _ (place .ends-below .ensures) _ _ _ _ (grown .grow .ensures) in
-    let rows = cover-rows _ _ _ _ _ (start .pre) (some .if1 .left) _ (place .ends-below .ensures) _ _ _ _ (grown .grow .ensures) in
+    let is = cover-is (start .pre) (some .if1 .left) (place .ends-below .ensures) (grown .grow .ensures) in
+    let size = cover-length (start .pre) (some .if1 .left) (place .ends-below .ensures) (grown .grow .ensures) in
+    let rows = cover-rows (start .pre) (some .if1 .left) (place .ends-below .ensures) (grown .grow .ensures) in
     let a = start .args in (
       c .stored2 .ensures ∙ room-answer (now (a .words)) (a .count) _ _ _ is size _ rows (room .if2 .left),
       put .place .ensures ∙ room-words (now (a .words)) (a .count) _ _ _ is size (room .if2 .left),

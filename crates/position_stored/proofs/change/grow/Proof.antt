@@ -20,12 +20,12 @@ loop-holds c = growing-start _ _ _ _ _ (c .before .pre .0) (c .before .pre .1)
 returns : tie.Need-returns Inv-loop μ-loop
 returns c =
     let turn = c .before .before .before in
-    growing-stop _ _ _ _ _ _ _ _ _ (turn .before .loop .inv) (turn .loop-test .taken) (c .if1 .taken)
+    growing-stop (turn .before .loop .inv) (turn .loop-test .taken) (c .if1 .taken)
 
 sub-gone : tie.Need-sub-gone Inv-loop μ-loop
 sub-gone c =
     let turn = c .before .before .before .before .before in
-    omega (arith, some-at _ _ _ _ (turn .before .before .before .pre .0) (turn .loop-test .taken))
+    omega (arith, some-at (turn .before .before .before .pre .0) (turn .loop-test .taken))
 
 add-gone : tie.Need-add-gone Inv-loop μ-loop
 add-gone c =
@@ -33,7 +33,7 @@ add-gone c =
     let known = turn .before .before in
     omega (
       arith,
-      growing-fits _ _ _ _ _ _ _ _ _ (turn .before .loop .inv) (known .before .pre .0)
+      growing-fits (turn .before .loop .inv) (known .before .pre .0)
           (record { fits = λ k. omega (arith, known .shared-slice-known .given k) }) (turn .loop-test .taken),
     )
 
@@ -41,11 +41,11 @@ loop-again : tie.Need-loop-again Inv-loop μ-loop
 loop-again c =
     let turn = c .before .before .before .before .before in
     rw (c .before .smaller .ensures, c .larger .ensures)
-    (growing-more _ _ _ _ _ _ _ _ _ (turn .before .loop .inv) (turn .loop-test .taken)
-    (some-at _ _ _ _ (turn .before .before .before .pre .0) (turn .loop-test .taken)) (c .before .before .if1 .left))
+    (growing-more (turn .before .loop .inv) (turn .loop-test .taken)
+    (some-at (turn .before .before .before .pre .0) (turn .loop-test .taken)) (c .before .before .if1 .left))
 
 returns-2 : tie.Need-returns-2 Inv-loop μ-loop
-returns-2 c = growing-end _ _ _ _ _ _ _ _ _ (c .before .loop .inv) (c .loop-test .left)
+returns-2 c = growing-end (c .before .loop .inv) (c .loop-test .left)
 
 pub grow-spec : {M : Type 1} → statement M
 grow-spec =

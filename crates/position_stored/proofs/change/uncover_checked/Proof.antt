@@ -28,7 +28,7 @@ returns-2 c =
     let place = c .before .before in
     let some = place .before .before in
     let begin = some .before .before in
-    let is = uncover-past _ _ _ _ _ (begin .pre) (some .if1 .left) _ (place .ends-below .ensures) (c .before .if2 .taken) in
+    let is = uncover-past (begin .pre) (some .if1 .left) (place .ends-below .ensures) (c .before .if2 .taken) in
     (c .stored2 .ensures ∙ same-answer _ _ _ (begin .pre) _ is, same-words _ _ _ (begin .pre) _ is)
 
 sub-left : tie.Need-sub-left
@@ -39,7 +39,7 @@ sub-left c =
     let some = place .before .before in
     let begin = some .before .before in
     let m = less-than _ _ (place .ends-below .ensures .within) (more .if2 .left) in
-    omega (arith, uncover-gone _ _ _ _ _ (begin .pre) (some .if1 .left) _ (place .ends-below .ensures) m _ _ (whole .gone-whole .ensures))
+    omega (arith, uncover-gone (begin .pre) (some .if1 .left) (place .ends-below .ensures) m (whole .gone-whole .ensures))
 
 returns-3 : tie.Need-returns-3
 returns-3 c =
@@ -51,8 +51,8 @@ returns-3 c =
     let begin = some .before .before in
     let a = begin .args in
     let m = less-than _ _ (place .ends-below .ensures .within) (more .if2 .left) in
-    let is = uncover-is _ _ _ _ _ (begin .pre) (some .if1 .left) _ (place .ends-below .ensures) m _ _ (whole .gone-whole .ensures) in
-    let size = uncover-length _ _ _ _ _ (begin .pre) (some .if1 .left) _ (place .ends-below .ensures) m _ _ (whole .gone-whole .ensures)
+    let is = uncover-is (begin .pre) (some .if1 .left) (place .ends-below .ensures) m (whole .gone-whole .ensures) in
+    let size = uncover-length (begin .pre) (some .if1 .left) (place .ends-below .ensures) m (whole .gone-whole .ensures)
     ∙ ap (λ (k : ℕ). k + place .ends-below .result + (a .count - whole .gone-whole .result .from)) (sym (one .one-if .ensures .0)) in (
       c .no-room .ensures ∙ none-answer (now (a .words)) (a .count) _ _ _ is size (c .before .if3 .taken),
       none-words (now (a .words)) (a .count) _ _ _ is size (c .before .if3 .taken),
@@ -79,7 +79,7 @@ sub-stored c =
     let some = place .before .before in
     let begin = some .before .before in
     let m = less-than _ _ (place .ends-below .ensures .within) (more .if2 .left) in
-    omega (arith, uncover-cut _ _ _ _ _ (begin .pre) (some .if1 .left) _ (place .ends-below .ensures) m _ _ (whole .gone-whole .ensures) _ _ (raised .raise .ensures))
+    omega (arith, uncover-cut (begin .pre) (some .if1 .left) (place .ends-below .ensures) m (whole .gone-whole .ensures) (raised .raise .ensures))
 
 add-stored : tie.Need-add-stored
 add-stored c =
@@ -93,7 +93,7 @@ add-stored c =
     omega (
       arith,
       c .less .ensures,
-      uncover-fits _ _ _ _ _ (begin .pre) (some .if1 .left) _ (place .ends-below .ensures) m _ _ (whole .gone-whole .ensures) _ _ (raised .raise .ensures)
+      uncover-fits (begin .pre) (some .if1 .left) (place .ends-below .ensures) m (whole .gone-whole .ensures) (raised .raise .ensures)
           (record { fits = λ k. omega (arith, some .before .slice-known .given k) }),
     )
 
@@ -111,12 +111,12 @@ returns-4 c =
     let begin = some .before .before in
     let a = begin .args in
     let m = less-than _ _ (place .ends-below .ensures .within) (more .if2 .left) in
-    let is = uncover-is _ _ _ _ _ (begin .pre) (some .if1 .left) _ (place .ends-below .ensures) m _ _ (whole .gone-whole .ensures) in
-    let size = uncover-length _ _ _ _ _ (begin .pre) (some .if1 .left) _ (place .ends-below .ensures) m _ _ (whole .gone-whole .ensures)
+    let is = uncover-is (begin .pre) (some .if1 .left) (place .ends-below .ensures) m (whole .gone-whole .ensures) in
+    let size = uncover-length (begin .pre) (some .if1 .left) (place .ends-below .ensures) m (whole .gone-whole .ensures)
     ∙ ap (λ (k : ℕ). k + place .ends-below .result + (a .count - whole .gone-whole .result .from)) (sym (one .one-if .ensures .0)) in
-    let rows = uncover-rows _ _ _ _ _ (begin .pre) (some .if1 .left) _ (place .ends-below .ensures) m _ _ (whole .gone-whole .ensures) _ _ (raised .raise .ensures)
+    let rows = uncover-rows (begin .pre) (some .if1 .left) (place .ends-below .ensures) m (whole .gone-whole .ensures) (raised .raise .ensures)
     ∙ ap (λ (k : ℕ). a .total - whole .gone-whole .result .gone - raised .raise .result + k) (sym (lessened .less .ensures)) in
-    let words = uncover-laid _ _ _ _ _ (begin .pre) (some .if1 .left) _ (place .ends-below .ensures) m _ _ (whole .gone-whole .ensures) _ _ (raised .raise .ensures)
+    let words = uncover-laid (begin .pre) (some .if1 .left) (place .ends-below .ensures) m (whole .gone-whole .ensures) (raised .raise .ensures)
     _ (put .place-piece .ensures) in (
       c .stored3 .ensures ∙ room-answer (now (a .words)) (a .count) _ _ _ is size _ rows (room .if3 .left),
       words ∙ room-words (now (a .words)) (a .count) _ _ _ is size (room .if3 .left),

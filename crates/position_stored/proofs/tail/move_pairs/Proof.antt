@@ -31,13 +31,13 @@ slice-write c =
 loop-again : tie.Need-loop-again Inv-loop μ-loop
 loop-again c =
     let turn = c .before .before in
-    moving-more _ _ _ _ _ _ _ _ _ _ _ (turn .before .loop .inv) (turn .loop-test .taken)
+    moving-more (turn .before .loop .inv) (turn .loop-test .taken)
 
 same-length : tie.Need-same-length Inv-loop μ-loop
-same-length c = moving-size _ _ _ _ _ _ _ _ _ _ _ (c .before .loop .inv)
+same-length c = moving-size (c .before .loop .inv)
 
 returns : tie.Need-returns Inv-loop μ-loop
-returns c = moving-end _ _ _ _ _ _ _ _ _ _ _ (c .before .loop .inv) (c .loop-test .left)
+returns c = moving-end (c .before .loop .inv) (c .loop-test .left)
 
 pub move-pairs-spec : {M : Type 1} → statement M
 move-pairs-spec =

@@ -24,7 +24,7 @@ returns-2 : tie.Need-returns-2
 returns-2 c =
     let asked = c .before .before .before in
     let room = asked .before .before in
-    stored-refused _ _ (room .if1 .left) _ _ _ _ (sym (ap lengthOf (c .before .r .given .1)) ∙ asked .count-rows .ensures)
+    stored-refused _ _ (room .if1 .left) _ _ (sym (ap lengthOf (c .before .r .given .1)) ∙ asked .count-rows .ensures)
 
 returns-3 : tie.Need-returns-3
 returns-3 c =

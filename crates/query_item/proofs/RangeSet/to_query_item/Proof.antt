@@ -3,15 +3,6 @@ use borrow.Author.Needs.{needs}
 use Rattle.query_item.proofs.RangeSet.to_query_item.Statement.{statement}
 use Rattle.query_item.proofs.RangeSet.to_query_item.Tie as tie
 
-returns : tie.Need-returns
-returns c = rw (c .before .before .start .given .1) (c .item-from .ensures)
-
-returns-2 : tie.Need-returns-2
-returns-2 c = rw (c .before .before .start2 .given .1) (c .item-after .ensures _)
-
-returns-3 : tie.Need-returns-3
-returns-3 c = rw (c .before .enum-told .given .1) (c .item-to .ensures _)
-
 pub to-query-item-spec : {M : Type 1} → statement M
 to-query-item-spec =
     tie.close
@@ -24,8 +15,8 @@ to-query-item-spec =
     (λ c κs. search needs)
     (λ c. search needs)
     (λ c. search needs)
-    returns
-    returns-2
-    returns-3
+    (λ c. rw (c .before .before .start .given .1) (c .item-from .ensures))
+    (λ c. rw (c .before .before .start2 .given .1) (c .item-after .ensures _))
+    (λ c. rw (c .before .enum-told .given .1) (c .item-to .ensures _))
     (λ c. search needs)
     (λ c. search needs))

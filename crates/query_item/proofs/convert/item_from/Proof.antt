@@ -3,15 +3,6 @@ use borrow.Author.Needs.{needs}
 use Rattle.query_item.proofs.convert.item_from.Statement.{statement}
 use Rattle.query_item.proofs.convert.item_from.Tie as tie
 
-returns : tie.Need-returns
-returns c = rw (c .before .before .end .given .1) (c .inclusive-item .ensures)
-
-returns-2 : tie.Need-returns-2
-returns-2 c = rw (c .before .end2 .given .1)
-
-returns-3 : tie.Need-returns-3
-returns-3 c = rw (c .enum-told .given .1)
-
 pub item-from-spec : {M : Type 1} → statement M
 item-from-spec =
     tie.close
@@ -22,8 +13,8 @@ item-from-spec =
     (λ c. search needs)
     (λ c. search needs)
     (λ c. search needs)
-    returns
-    returns-2
-    returns-3
+    (λ c. rw (c .before .before .end .given .1) (c .inclusive-item .ensures))
+    (λ c. rw (c .before .end2 .given .1))
+    (λ c. rw (c .enum-told .given .1))
     (λ c. search needs)
     (λ c. search needs))

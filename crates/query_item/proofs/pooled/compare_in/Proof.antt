@@ -4,8 +4,10 @@ use Rattle.key_order.proofs.Numbers.{order-number}
 use Rattle.query_item.proofs.pooled.compare_in.Statement.{statement}
 use Rattle.query_item.proofs.pooled.compare_in.Tie as tie
 
-returns : tie.Need-returns
-returns c = rw (c .order-of .ensures, c .before .stand-in .ensures) (order-number _)
-
 pub compare-in-spec : {M : Type 1} → statement M
-compare-in-spec = tie.close (tie.spec (λ c κs. search needs) (λ c κs. search needs) returns)
+compare-in-spec =
+    tie.close
+    (tie.spec
+    (λ c κs. search needs)
+    (λ c κs. search needs)
+    (λ c. rw (c .order-of .ensures, c .before .stand-in .ensures) (order-number _)))

@@ -4,9 +4,6 @@ use borrow.Author.Needs.{needs}
 use Rattle.query_item.proofs.pooled.key_bytes.Statement.{statement}
 use Rattle.query_item.proofs.pooled.key_bytes.Tie as tie
 
-returns : tie.Need-returns
-returns c = part-clipped _ _ _ _ _ (c .before .before .before .least .ensures) (c .before .least2 .ensures)
-
 pub key-bytes-spec : {M : Type 1} → statement M
 key-bytes-spec =
     tie.close
@@ -20,4 +17,4 @@ key-bytes-spec =
     (λ c. search needs)
     (λ c. search needs)
     (λ c. search needs)
-    returns)
+    (λ c. part-clipped _ _ _ _ _ (c .before .before .before .least .ensures) (c .before .least2 .ensures)))

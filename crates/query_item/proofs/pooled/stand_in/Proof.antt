@@ -21,7 +21,8 @@ returns c =
     let b = bytesOf (args .pool .now) (keyOf (args .y)) in
     let p = told .rung-of .ensures ∙ ap rung (told .before .kind-of .ensures) in
     let q = taken .before .before .before .rung-of2 .ensures ∙ ap rung (taken .before .before .before .before .kind-of2 .ensures) in
-    rw (c .then-by .ensures, c .before .stand-numbers .ensures, c .before .before .stand-keys .ensures, c .before .before .before .key-of2 .ensures, c .before .before .before .before .key-of .ensures)
+    let keys = c .before .before in
+    rw (c .then-by .ensures, c .before .stand-numbers .ensures, keys .stand-keys .ensures, keys .before .key-of2 .ensures, keys .before .before .key-of .ensures)
     (number-then (compareKeys a b) (compareNumbers (told .rung-of .result) (taken .before .before .before .rung-of2 .result))
     ∙ ap orderNumber (by-keys (kindOf (args .x)) (kindOf (args .y)) a b p q
     (rw (← taken .before .before .is-bounded .ensures, ← taken .before .is-bounded2 .ensures) (taken .if1 .taken))))

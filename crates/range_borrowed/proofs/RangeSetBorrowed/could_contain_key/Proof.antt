@@ -42,7 +42,7 @@ use denote.Triple.Table.{entered, cited}
 use denote.Triple.Walked.{says, Stays, stay-none, stay-none-slice, walkOf, goes-none, goes-none-slice, Walks, ends-at, walked, walk-meets}
 use denote.Exit.{yes}
 use denote.Triple.Clauses.{ensured, lasts}
-use Rattle.range_borrowed.specs.Borrowed.{lent, containmentBetween}
+use Rattle.range_borrowed.specs.Borrowed.{lentStart, lentEnd, containmentBetween}
 use Rattle.range_borrowed.specs.declared.KeyContainmentResult.{KeyContainmentResult}
 use Rattle.range_borrowed.specs.declared.RangeSetBorrowed.{RangeSetBorrowed}
 use Rattle.range_borrowed.proofs.RangeSetBorrowed as T
@@ -104,7 +104,7 @@ module _ {M : Type 1} (𝓤 : URA M) (H : Heap 𝓤) (A : Atoms 𝓤) (W : Given
   vk = sliceVal (k .ptr) (length (k .now))
 
   abbrev found : KeyContainmentResult
-  found = containmentBetween (lent (now (d .start)) (d .«start_kind»)) (lent (now (d .end)) (d .«end_kind»)) (now k)
+  found = containmentBetween (lentStart d) (lentEnd d) (now k)
 
   abbrev bound : walkOf 𝓤 H A f.ended stayed (f.clauses 𝓤 H A mem run) .Ghost
   bound = ((κs, (q, (q′, tt)), tt, (d, (k, tt)), (mach ∷ [], (vk ∷ [], tt))), tt)

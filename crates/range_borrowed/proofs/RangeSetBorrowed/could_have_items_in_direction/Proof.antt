@@ -44,7 +44,7 @@ use denote.Triple.Table.{entered, cited}
 use denote.Triple.Walked.{says, Stays, stay-none, stay-none-slice, walkOf, goes-none, goes-none-slice, Walks, ends-at, walked, walk-meets}
 use denote.Exit.{yes}
 use denote.Triple.Clauses.{ensured, lasts}
-use Rattle.range_borrowed.specs.Borrowed.{lent, mayStand}
+use Rattle.range_borrowed.specs.Borrowed.{lentStart, lentEnd, mayStand}
 use Rattle.range_borrowed.specs.declared.Direction.{Direction}
 use Rattle.range_borrowed.specs.declared.RangeSetBorrowed.{RangeSetBorrowed}
 use Rattle.range_borrowed.proofs.Direction as E
@@ -109,7 +109,7 @@ module _ {M : Type 1} (𝓤 : URA M) (H : Heap 𝓤) (A : Atoms 𝓤) (W : Given
   vb = EL.val E.the-type E′.the-laws b
 
   abbrev found : Bool
-  found = mayStand (lent (now (d .start)) (d .«start_kind»)) (lent (now (d .end)) (d .«end_kind»)) (now k) b
+  found = mayStand (lentStart d) (lentEnd d) (now k) b
 
   abbrev bound : walkOf 𝓤 H A f.ended stayed (f.clauses 𝓤 H A mem run) .Ghost
   bound = ((κs, (q, (q′, tt)), tt, (d, (k, (b, tt))), (mach ∷ [], (vk ∷ [], (vb ∷ [], tt)))), tt)

@@ -1,17 +1,17 @@
--- `insert_order::order_items` meets its contract: the starts decide, or they are equal and the ends do. Assumes nothing.
+-- `insert_order::compare_items` meets its contract: the starts decide, or they are equal and the ends do. Assumes nothing.
 use borrow.Author.Needs.{needs}
-use Rattle.insert_order.specs.Order.{orderItems}
-use Rattle.insert_order.proofs.order_items.Statement.{statement}
-use Rattle.insert_order.proofs.order_items.Tie as tie
+use Rattle.insert_order.specs.Order.{compareItems}
+use Rattle.insert_order.proofs.compare_items.Statement.{statement}
+use Rattle.insert_order.proofs.compare_items.Tie as tie
 
 returns : tie.Need-returns
-unfolding orderItems
+unfolding compareItems
 returns c =
     let ranges = c .before .before .before in
     rw (← ranges .before .range-of .ensures, ← ranges .range-of2 .ensures, ← c .before .before .compare-in .ensures, c .enum-told .given .1)
 
 returns-2 : tie.Need-returns-2
-unfolding orderItems
+unfolding compareItems
 returns-2 c =
     let starts = c .before .before .before in
     let ranges = starts .before in
@@ -19,13 +19,13 @@ returns-2 c =
     (c .compare-in2 .ensures)
 
 returns-3 : tie.Need-returns-3
-unfolding orderItems
+unfolding compareItems
 returns-3 c =
     let ranges = c .before .before .before in
     rw (← ranges .before .range-of .ensures, ← ranges .range-of2 .ensures, ← c .before .before .compare-in .ensures, c .enum-told3 .given .1)
 
-pub order-items-spec : {M : Type 1} → statement M
-order-items-spec =
+pub compare-items-spec : {M : Type 1} → statement M
+compare-items-spec =
     tie.close
     (tie.spec
     (λ c κs. search needs)

@@ -1,21 +1,19 @@
 -- Lists of positions: their members, and that an ascending list is determined by these. Assumes nothing.
 use Prim.Native.Nat.{ℕ, zero, suc, _+_, _-_, _≤_, _<_, min, max}
 use mathlib.Core.Path.{_≡_, refl, sym, ap, _∙_}
-use mathlib.Core.Bool.{Bool, true, false, cond, not, _&&_, _||_, or-assoc, and-false, false≢true, true≢false}
+use mathlib.Core.Bool.{Bool, true, false, cond, _&&_, _||_, or-assoc, or-true, and-false, false≢true, true≢false}
 use mathlib.Core.List.{List, [], _∷_, _++_}
 use native.Mathlib.Decide.{decLt, ℕ-discrete}
 use native.Mathlib.Omega.{arith}
-use lib.Dec.{leb, eqb}
+use lib.Dec.{eqb}
 use lib.ListN.{length, getD}
-use borrow.Author.Tests.{leb-true, eq-eqb, ne-eqb}
+use borrow.Author.Tests.{eq-eqb, ne-eqb}
 use Rattle.intervals.specs.Lists.{keep}
-use Rattle.intervals.specs.Intervals.{Interval, Above, inside, holds}
+use Rattle.intervals.specs.Intervals.{Interval, inside, holds}
+use Rattle.intervals.proofs.Model.{Above}
 use Rattle.intervals.proofs.Members.{where-is, below, in-it, past, inside-below, inside-yes, inside-past}
-use Rattle.item_check.specs.Checks.{accepted, refused}
-use Rattle.position_given.specs.Positions.{countUp, positionsOf}
+use Rattle.position_given.specs.Positions.{countUp, positionsOf, isIn}
 use Rattle.position_given.specs.Inner.{Ascends}
-use Rattle.position_given.proofs.Accepted.{never-accepted}
-use Rattle.position_mismatch.specs.Reports.{isIn, firstCrossing}
 
 -- ---- members
 
@@ -96,11 +94,7 @@ unfolding isIn
 ascends-append lo mid [] M l a h b = ascends-weaken mid lo M l b
 ascends-append lo mid (p ∷ L) M l a h b =
     let first : p < mid = h p (rw (eq-eqb p p refl)) in
-    (a .0, ascends-append (suc p) mid L M first (a .1) (λ q e. h q (rw e (or-right (eqb q p)))) b)
-  where
-    or-right : (t : Bool) → t || true ≡ true
-    or-right true = refl
-    or-right false = refl
+    (a .0, ascends-append (suc p) mid L M first (a .1) (λ q e. h q (rw e (or-true (eqb q p)))) b)
 
 pub ascends-count : (s k : ℕ) → Ascends s (countUp s k)
 unfolding countUp
@@ -114,38 +108,24 @@ in-end s e p h = elim (decLt p e) [
   | no k ↦ absurd (true≢false (sym h ∙ in-between s e p ∙ inside-past s e p (omega arith)))
 ]
 
+-- an interval's positions before those of a list that starts at its end
+pub ascends-run : (lo s e : ℕ) (L : List ℕ) → lo ≤ s → s ≤ e → Ascends e L → Ascends lo (countUp s (e - s) ++ L)
+ascends-run lo s e L h k a =
+    ascends-append lo e (countUp s (e - s)) L (omega arith) (ascends-weaken s lo (countUp s (e - s)) h (ascends-count s (e - s))) (in-end s e) a
+
 pub ascends-positions : (lo : ℕ) (A : List Interval) → Above lo A → Ascends lo (positionsOf A)
 unfolding positionsOf
 ascends-positions lo [] h = tt
-ascends-positions lo (a ∷ A) h =
-    ascends-append lo (a .1) (countUp (a .0) (a .1 - a .0)) (positionsOf A) (omega arith)
-    (ascends-weaken (a .0) lo (countUp (a .0) (a .1 - a .0)) (h .0) (ascends-count (a .0) (a .1 - a .0)))
-    (in-end (a .0) (a .1))
-    (ascends-positions (a .1) A (h .2))
-
--- the positions of accepted spans ascend; empty and touching spans are accepted too
-pub ascends-spans : (i e : ℕ) (S : List Interval) → firstCrossing i e S ≡ accepted → Ascends e (positionsOf S)
-unfolding firstCrossing positionsOf
-ascends-spans i e [] h = tt
-ascends-spans i e (a ∷ S) h = go (leb e (a .0)) (leb (a .0) (a .1)) refl refl h (ascends-spans (suc i) (a .1) S)
-  where
-    go : (t u : Bool) → leb e (a .0) ≡ t → leb (a .0) (a .1) ≡ u → cond (t && u) (firstCrossing (suc i) (a .1) S) (refused 8 1 i) ≡ accepted
-        → (firstCrossing (suc i) (a .1) S ≡ accepted → Ascends (a .1) (positionsOf S)) → Ascends e (countUp (a .0) (a .1 - a .0) ++ positionsOf S)
-    go true true p q r rest =
-        let from : e ≤ a .0 = leb-true e (a .0) p in
-        let up : a .0 ≤ a .1 = leb-true (a .0) (a .1) q in
-        ascends-append e (a .1) (countUp (a .0) (a .1 - a .0)) (positionsOf S) (omega arith)
-        (ascends-weaken (a .0) e (countUp (a .0) (a .1 - a .0)) from (ascends-count (a .0) (a .1 - a .0)))
-        (in-end (a .0) (a .1))
-        (rest r)
-    go true false p q r rest = never-accepted r
-    go false u p q r rest = never-accepted r
+ascends-positions lo (a ∷ A) h = ascends-run lo (a .0) (a .1) (positionsOf A) (h .0) (omega (arith, h .1)) (ascends-positions (a .1) A (h .2))
 
 -- nothing below lo is in a list that starts at lo
 pub in-below : (lo : ℕ) (L : List ℕ) (p : ℕ) → Ascends lo L → p < lo → isIn L p ≡ false
 unfolding isIn
 in-below lo [] p a h = refl
 in-below lo (q ∷ L) p a h = rw (ne-eqb p q (λ e. omega (arith, a .0))) (in-below (suc q) L p (a .1) (omega (arith, a .0)))
+
+pub ascends-member : (lo : ℕ) (L : List ℕ) (p : ℕ) → Ascends lo L → isIn L p ≡ true → lo ≤ p
+ascends-member lo L p a e = elim (decLt p lo) [ yes h ↦ absurd (true≢false (sym e ∙ in-below lo L p a h)) | no h ↦ omega arith ]
 
 in-none : (p : ℕ) → isIn [] p ≡ false
 unfolding isIn
@@ -227,11 +207,7 @@ pub keep-same : (f g : ℕ → Bool) (L : List ℕ) → ((p : ℕ) → isIn L p 
 unfolding keep isIn
 keep-same f g [] h = refl
 keep-same f g (p ∷ L) h =
-    rw (h p (rw (eq-eqb p p refl)), keep-same f g L (λ q e. h q (rw e (or-right (eqb q p)))))
-  where
-    or-right : (t : Bool) → t || true ≡ true
-    or-right true = refl
-    or-right false = refl
+    rw (h p (rw (eq-eqb p p refl)), keep-same f g L (λ q e. h q (rw e (or-true (eqb q p)))))
 
 -- what f keeps of what g keeps is what both keep
 pub keep-keep : (f g : ℕ → Bool) (L : List ℕ) → keep f (keep g L) ≡ keep (λ p. g p && f p) L
@@ -244,13 +220,21 @@ keep-keep f g (p ∷ L) = go (g p) (keep-keep f g L)
     go true r = ap (λ (l : List ℕ). cond (f p) (p ∷ l) l) r
     go false r = r
 
-pub keep-never : (L : List ℕ) → keep (λ p. false) L ≡ []
-unfolding keep
-keep-never [] = refl
-keep-never (p ∷ L) = keep-never L
-
 pub keep-none : (f : ℕ → Bool) (L : List ℕ) → ((p : ℕ) → isIn L p ≡ true → f p ≡ false) → keep f L ≡ []
-keep-none f L h = keep-same f (λ p. false) L h ∙ keep-never L
+unfolding keep
+keep-none f L h = keep-same f (λ p. false) L h ∙ never L
+  where
+    never : (L : List ℕ) → keep (λ p. false) L ≡ []
+    never [] = refl
+    never (p ∷ L) = never L
+
+pub keep-all : (f : ℕ → Bool) (L : List ℕ) → ((p : ℕ) → isIn L p ≡ true → f p ≡ true) → keep f L ≡ L
+unfolding keep
+keep-all f L h = keep-same f (λ p. true) L h ∙ always L
+  where
+    always : (L : List ℕ) → keep (λ p. true) L ≡ L
+    always [] = refl
+    always (p ∷ L) = ap (_∷_ p) (always L)
 
 -- a run, cut to what stands from x on, below y
 pub keep-run : (s e x y : ℕ) → keep (inside x y) (countUp s (e - s)) ≡ countUp (max s x) (min e y - max s x)
