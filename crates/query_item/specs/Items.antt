@@ -55,7 +55,7 @@ absent = keyAt 0 0
 abbrev pub itemWords : ℕ → ℕ → KeyAt → KeyAt → ItemWords
 itemWords c w a b = record { code = c; wrapper = w; start = a; end = b }
 
--- 02 §6.4: an item with other keys; what else it has stays
+-- 02 §6.5: an item with other keys, as where its offsets are rewritten; what else it has stays
 abbrev pub withKeys : ItemWords → KeyAt → KeyAt → ItemWords
 withKeys it a b = itemWords (it .code) (it .wrapper) a b
 
