@@ -13,7 +13,7 @@ use key_order::{Ordering, compare_numbers};
 
 // What a boundary is, where its key is lent as bytes beside it, in the order of boundaries at one key: so that its rung is the number that stands
 // for it already. An unbounded one does without a key.
-#[derive(Drop)]
+#[derive(Clone, Copy)]
 pub enum BoundaryKind {
     UnboundedStart,
     ExclusiveEnd,

@@ -62,7 +62,7 @@ pub(crate) fn refusal_number(refusal: Refusal) -> u64
 pub(crate) const SET_SIZE: usize = 6;
 
 // The kinds of start and end, and their keys.
-#[derive(Drop)]
+#[derive(Clone, Copy)]
 pub(crate) struct SetWords {
     pub(crate) from: u32,
     pub(crate) to: u32,

@@ -26,7 +26,7 @@ mod tail;
 mod window;
 
 // What `insert_item` answers: the new count, or a refusal.
-#[derive(Drop)]
+#[derive(Clone, Copy)]
 pub enum Inserted {
     Count(usize),
     Refused(Refusal),

@@ -10,7 +10,7 @@ use key_order::is_less;
 use query_item::ItemWords;
 
 // The items from an index up to another.
-#[derive(Drop)]
+#[derive(Clone, Copy)]
 pub(crate) struct Window {
     pub(crate) from: usize,
     pub(crate) to: usize,

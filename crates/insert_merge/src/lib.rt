@@ -16,7 +16,7 @@ use query_item::pooled::compare_in;
 use query_item::{ItemWords, MaybeItem, RangeSet, RangeSetItem};
 
 // What becomes of an item of the list: the new one takes its place, it stays, or it is merged with the new one.
-#[derive(Drop)]
+#[derive(Clone, Copy)]
 pub enum Fate {
     Replaced,
     Stays,
@@ -24,7 +24,7 @@ pub enum Fate {
 }
 
 // What the list comes to: the new item with all that merge with it, and how many items stay.
-#[derive(Drop)]
+#[derive(Clone, Copy)]
 pub struct Found {
     pub result: ItemWords,
     pub stay: usize,

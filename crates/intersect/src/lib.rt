@@ -8,14 +8,14 @@ use item_check::Refusal;
 use query_item::{MaybeItem, RangeSet};
 
 // A range that may be missing.
-#[derive(Drop)]
+#[derive(Clone, Copy)]
 pub enum MaybeSet {
     NoSet,
     Set(RangeSet),
 }
 
 // What two items share, and what is left over of each to the left and to the right.
-#[derive(Drop)]
+#[derive(Clone, Copy)]
 pub struct QueryItemIntersectionResult {
     pub in_both: MaybeItem,
     pub ours_left: MaybeItem,
@@ -25,7 +25,7 @@ pub struct QueryItemIntersectionResult {
 }
 
 // What the pair answers.
-#[derive(Drop)]
+#[derive(Clone, Copy)]
 pub enum PairAnswer {
     Pair(QueryItemIntersectionResult),
     Refused(Refusal),

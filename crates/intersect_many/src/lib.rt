@@ -26,7 +26,7 @@ use query_item::pooled::{below_in, compare_in, invert_in, key_of, kind_of};
 use query_item::{RangeSet, RangeSetItem};
 
 // How many items the three lists have.
-#[derive(Drop)]
+#[derive(Clone, Copy)]
 pub struct ManyCounts {
     pub shared: usize,
     pub ours: usize,
@@ -34,14 +34,14 @@ pub struct ManyCounts {
 }
 
 // What the call on two lists answers.
-#[derive(Drop)]
+#[derive(Clone, Copy)]
 pub enum ManyAnswer {
     Counts(ManyCounts),
     Refused(Refusal),
 }
 
 // How two ranges stand: ours before theirs, after it, or meeting it, with the order of their ends.
-#[derive(Drop)]
+#[derive(Clone, Copy)]
 enum Stand {
     Before,
     After,

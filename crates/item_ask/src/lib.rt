@@ -10,14 +10,14 @@ use query_item::{ItemWords, MaybeItem, QueryItem, RangeSet};
 use range_borrowed::{Direction, KeyContainmentResult, item_contains, item_may_stand};
 
 // What `to_range_set` answers.
-#[derive(Drop)]
+#[derive(Clone, Copy)]
 pub enum RangeAnswer {
     Range(RangeSet),
     Refused(Refusal),
 }
 
 // What `to_query_item` answers.
-#[derive(Drop)]
+#[derive(Clone, Copy)]
 pub enum ItemAnswer {
     NoItem,
     Item(QueryItem),
@@ -25,14 +25,14 @@ pub enum ItemAnswer {
 }
 
 // What `could_contain_key` answers.
-#[derive(Drop)]
+#[derive(Clone, Copy)]
 pub enum Containment {
     Contains(KeyContainmentResult),
     Refused(Refusal),
 }
 
 // What `could_have_items_in_direction` answers.
-#[derive(Drop)]
+#[derive(Clone, Copy)]
 pub enum InDirection {
     Answered(bool),
     Refused(Refusal),

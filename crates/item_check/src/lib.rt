@@ -11,7 +11,7 @@ use query_item::pooled::{at_most_in, below_in, key_of};
 use query_item::{ItemWords, KeyAt, RangeSet};
 
 // A refusal: its number, the side (0 ours, 1 theirs), and the index of the item, pair or position.
-#[derive(Drop)]
+#[derive(Clone, Copy)]
 pub struct Refusal {
     pub number: u32,
     pub side: u32,
@@ -19,7 +19,7 @@ pub struct Refusal {
 }
 
 // What a check answers.
-#[derive(Drop)]
+#[derive(Clone, Copy)]
 pub enum Checked {
     Accepted,
     Refused(Refusal),

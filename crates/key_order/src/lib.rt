@@ -10,7 +10,7 @@ ghost use Rattle.key_order.specs.Order.{compare_numbers, compare_keys, smaller, 
 ghost use Rattle.key_order.specs.Words.{be};
 ghost use Rattle.key_order.specs.Inner.{Reached};
 
-#[derive(Drop)]
+#[derive(Clone, Copy)]
 pub enum Ordering {
     Less,
     Equal,

@@ -15,7 +15,7 @@ use query_item::pooled::key_bytes;
 use query_item::{ItemWords, KeyAt};
 
 // The pool's length and the two counts.
-#[derive(Drop)]
+#[derive(Clone, Copy)]
 pub struct FileParts {
     pub pool: usize,
     pub ours: usize,
@@ -23,7 +23,7 @@ pub struct FileParts {
 }
 
 // What reading a file answers.
-#[derive(Drop)]
+#[derive(Clone, Copy)]
 pub enum FileAnswer {
     Read(FileParts),
     Refused(Refusal),

@@ -18,14 +18,14 @@ use krl_listing::{MAX_LINE, listing_line};
 use libc::STDOUT_FILENO;
 
 // What reading came to: how many bytes, to the end of the input or of the lent bytes.
-#[derive(Drop)]
+#[derive(Clone, Copy)]
 enum Input {
     Bytes(usize),
     Failed,
 }
 
 // What writing came to: how many lines, which are all.
-#[derive(Drop)]
+#[derive(Clone, Copy)]
 enum Output {
     Lines(usize),
     Failed,

@@ -10,7 +10,7 @@ use item_words::{ITEM_SIZE, item_at};
 use query_item::ItemWords;
 
 // How many keys are known, and how many bytes they have together.
-#[derive(Drop)]
+#[derive(Clone, Copy)]
 pub(crate) struct Gathered {
     pub(crate) known: usize,
     pub(crate) used: usize,

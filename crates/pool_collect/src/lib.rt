@@ -22,7 +22,7 @@ mod rewrite;
 mod table;
 
 // What `collect` answers: how many bytes of the fresh pool are used, or a refusal.
-#[derive(Drop)]
+#[derive(Clone, Copy)]
 pub enum Collected {
     Used(usize),
     Refused(Refusal),

@@ -12,7 +12,7 @@ use query_item::KeyAt;
 use query_item::pooled::compare_keys;
 
 // After a key: how many keys are known, how many bytes they have together, and where the key goes in the fresh pool.
-#[derive(Drop)]
+#[derive(Clone, Copy)]
 pub(crate) struct Placed {
     pub(crate) known: usize,
     pub(crate) used: usize,

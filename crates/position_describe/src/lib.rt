@@ -23,7 +23,7 @@ pub fn text_room(byte: u8) -> [u8; MAX_TEXT]
 }
 
 // What `describe` answers: how many bytes it has written.
-#[derive(Drop)]
+#[derive(Clone, Copy)]
 pub enum Described {
     Bytes(usize),
     Refused(Refusal),

@@ -16,22 +16,22 @@ use item_check::{Checked, Refusal, refusal_of, refuse};
 pub const LAST_WORD: u64 = 18446744073709551615;
 
 // A row of the log. Nothing adds two of them (01 m6.7, form.2).
-#[derive(Drop)]
+#[derive(Clone, Copy)]
 pub struct LogPosition(pub u64);
 
 // How many rows (01 m6.7, form.2).
-#[derive(Drop)]
+#[derive(Clone, Copy)]
 pub struct RowCount(pub u64);
 
 // How many rows are covered; what `len` and `stored_total` answer.
-#[derive(Drop)]
+#[derive(Clone, Copy)]
 pub enum Length {
     Rows(RowCount),
     Refused(Refusal),
 }
 
 // What a stored list has: how many pairs, and how many rows these cover. It is what `from_query_items`, `cover` and `uncover` answer (02 §4.1).
-#[derive(Drop)]
+#[derive(Clone, Copy)]
 pub enum Stored {
     Pairs(usize, RowCount),
     Refused(Refusal),

@@ -8,7 +8,7 @@ pub mod ask;
 use item_check::Refusal;
 
 // What `contains` and `is_empty` answer.
-#[derive(Drop)]
+#[derive(Clone, Copy)]
 pub enum YesOrNo {
     Is(bool),
     Refused(Refusal),

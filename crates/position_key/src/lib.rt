@@ -7,7 +7,7 @@ use key_order::wide;
 use position_given::LogPosition;
 
 // What `be_u64` answers: the position, or refusal 7.
-#[derive(Drop)]
+#[derive(Clone, Copy)]
 pub enum PositionKey {
     At(LogPosition),
     Refused,

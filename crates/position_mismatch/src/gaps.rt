@@ -8,7 +8,7 @@ use position_given::smaller;
 use position_report::{Counted, PositionMismatch, push_run};
 
 // A walk but for its examples.
-#[derive(Drop)]
+#[derive(Clone, Copy)]
 pub(crate) struct Place {
     pub(crate) pair: usize,
     pub(crate) from: u64,

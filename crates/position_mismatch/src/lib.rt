@@ -13,7 +13,7 @@ use position_report::PositionMismatch;
 
 // What `missing_from`, `missing_from_spans` and `extra_in` answer. Where the call is refused the report is the empty one. (An enum cannot
 // hold the report's array.)
-#[derive(Drop)]
+#[derive(Clone, Copy)]
 pub struct Compared {
     pub checked: Checked,
     pub report: PositionMismatch,
@@ -21,7 +21,7 @@ pub struct Compared {
 
 // inner: where a walk along intervals stands: positions below from are dealt with, pairs before pair are passed, and report has what is off
 // so far.
-#[derive(Drop)]
+#[derive(Clone, Copy)]
 pub struct Walk {
     pub pair: usize,
     pub from: u64,
@@ -29,7 +29,7 @@ pub struct Walk {
 }
 
 // inner: where a walk over spans stands: whether something is refused, and how many spans are seen.
-#[derive(Drop)]
+#[derive(Clone, Copy)]
 pub struct SpanWalk {
     pub checked: Checked,
     pub seen: usize,

@@ -15,7 +15,7 @@ use item_check::{Checked, Refusal, refuse};
 use position_given::check_ascending;
 
 // What `plan_refetch` answers: how many windows it has written.
-#[derive(Drop)]
+#[derive(Clone, Copy)]
 pub enum Planned {
     Windows(usize),
     Refused(Refusal),

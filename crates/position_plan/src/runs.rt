@@ -8,7 +8,7 @@ use position_given::smaller;
 
 // Missing rows, from start on, below end; where end is not above start, no row from start on is missing. The pairs before `pair`, and the
 // proved positions before `seen`, are below start.
-#[derive(Drop)]
+#[derive(Clone, Copy)]
 pub(crate) struct Run {
     pub(crate) start: u64,
     pub(crate) end: u64,

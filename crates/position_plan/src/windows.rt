@@ -10,7 +10,7 @@ use position_given::{Length, RowCount, saturating_add};
 use position_intervals::ask::len;
 
 // The end of a window, and the run of missing rows that is left after it.
-#[derive(Drop)]
+#[derive(Clone, Copy)]
 pub(crate) struct Window {
     pub(crate) end: u64,
     pub(crate) next: Run,

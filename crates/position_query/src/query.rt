@@ -26,7 +26,7 @@ use query_item::{ItemWords, KeyAt};
 // The bytes of a position's key.
 const POSITION_KEY_LENGTH: u32 = 8;
 
-#[derive(Drop)]
+#[derive(Clone, Copy)]
 struct PositionRange {
     start: u64,
     end: u64,

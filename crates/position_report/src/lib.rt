@@ -14,7 +14,7 @@ ghost use Rattle.position_report.specs.Inner.{report_with, with_run};
 use position_given::{RowCount, saturating_add, smaller};
 
 // How many positions are off, and the smallest of them: the first count places of examples. Unused places are 0.
-#[derive(Drop)]
+#[derive(Clone, Copy)]
 pub struct PositionMismatch {
     pub total: RowCount,
     pub count: usize,
@@ -22,7 +22,7 @@ pub struct PositionMismatch {
 }
 
 // inner: a report but for its examples, which are lent beside it.
-#[derive(Drop)]
+#[derive(Clone, Copy)]
 pub struct Counted {
     pub total: u64,
     pub count: usize,

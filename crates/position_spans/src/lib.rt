@@ -11,7 +11,7 @@ use position_mismatch::{Compared, SpanWalk};
 
 // The positions from a start on, below an end. For C it is two words.
 #[repr(C)]
-#[derive(Drop)]
+#[derive(Clone, Copy)]
 pub struct Span {
     pub start: u64,
     pub end: u64,

@@ -74,7 +74,7 @@ fn cover_checked(words: &mut [u64], count: usize, total: u64, s: u64, e: u64) ->
 }
 
 // A range that has taken in pairs up to an index, and how many rows those have.
-#[derive(Drop)]
+#[derive(Clone, Copy)]
 struct Grown {
     from: usize,
     start: u64,
@@ -144,7 +144,7 @@ fn uncover_checked(words: &mut [u64], count: usize, total: u64, s: u64, e: u64) 
 }
 
 // Pairs up to an index that go whole, and how many rows they have.
-#[derive(Drop)]
+#[derive(Clone, Copy)]
 struct Whole {
     from: usize,
     gone: u64,

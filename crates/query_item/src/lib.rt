@@ -7,14 +7,14 @@ pub mod convert;
 pub mod pooled;
 
 // A key: a part of the pool.
-#[derive(Drop)]
+#[derive(Clone, Copy)]
 pub struct KeyAt {
     pub offset: u32,
     pub length: u32,
 }
 
 // The ten kinds of items.
-#[derive(Drop)]
+#[derive(Clone, Copy)]
 pub enum QueryItem {
     Key(KeyAt),
     Range(KeyAt, KeyAt),
@@ -29,7 +29,7 @@ pub enum QueryItem {
 }
 
 // A boundary whose key is a part of the pool; the kinds stand in the order of `BoundaryKind`.
-#[derive(Drop)]
+#[derive(Clone, Copy)]
 pub enum RangeSetItem {
     UnboundedStart,
     ExclusiveEnd(KeyAt),
@@ -39,21 +39,21 @@ pub enum RangeSetItem {
 }
 
 // A range by its two boundaries.
-#[derive(Drop)]
+#[derive(Clone, Copy)]
 pub struct RangeSet {
     pub start: RangeSetItem,
     pub end: RangeSetItem,
 }
 
 // What two boundaries make.
-#[derive(Drop)]
+#[derive(Clone, Copy)]
 pub enum MaybeItem {
     NoItem,
     Item(QueryItem),
 }
 
 // The six words of an item: code, wrapper, start offset, start length, end offset, end length.
-#[derive(Drop)]
+#[derive(Clone, Copy)]
 pub struct ItemWords {
     pub code: u32,
     pub wrapper: u32,

@@ -14,7 +14,7 @@ use query_item::ItemWords;
 use query_item::pooled::{key_bytes, key_of, kind_of};
 
 // A range by its two keys, lent, and the numbers of their kinds.
-#[derive(Drop)]
+#[derive(Clone, Copy)]
 pub struct RangeSetBorrowed<'a> {
     pub start: &'a [u8],
     pub end: &'a [u8],
@@ -23,14 +23,14 @@ pub struct RangeSetBorrowed<'a> {
 }
 
 // How a range and a key stand: the key is held; the key sits on an exclusive bound.
-#[derive(Drop)]
+#[derive(Clone, Copy)]
 pub struct KeyContainmentResult {
     pub included: bool,
     pub on_bounds_not_included: bool,
 }
 
 // Where keys are looked for: below the asked key, or above it.
-#[derive(Drop)]
+#[derive(Clone, Copy)]
 pub enum Direction {
     LeftOf,
     RightOf,

@@ -22,21 +22,21 @@ use query_item::{ItemWords, KeyAt};
 mod row;
 
 // How many items a sheet has, and how many bytes their keys.
-#[derive(Drop)]
+#[derive(Clone, Copy)]
 pub struct SheetCounts {
     pub items: usize,
     pub bytes: usize,
 }
 
 // What reading a sheet answers.
-#[derive(Drop)]
+#[derive(Clone, Copy)]
 pub enum SheetAnswer {
     Read(SheetCounts),
     Refused(Refusal),
 }
 
 // What a counting pass finds: rows and key bytes, and whether a key is too long, and in which row first. Where a row is bad, `rows` is its number.
-#[derive(Drop)]
+#[derive(Clone, Copy)]
 pub(crate) struct Measured {
     pub(crate) good: bool,
     pub(crate) rows: usize,

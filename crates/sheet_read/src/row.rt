@@ -9,7 +9,7 @@ use item_check::{has_end, has_start};
 use item_name::code_of;
 
 // A field: its content is the text from `from` up to `to`, and the text after it starts at `next`.
-#[derive(Drop)]
+#[derive(Clone, Copy)]
 pub(crate) struct FieldAt {
     pub(crate) good: bool,
     pub(crate) from: usize,
@@ -18,14 +18,14 @@ pub(crate) struct FieldAt {
 }
 
 // The end of a row, and where the next one starts.
-#[derive(Drop)]
+#[derive(Clone, Copy)]
 pub(crate) struct EndAt {
     pub(crate) good: bool,
     pub(crate) next: usize,
 }
 
 // A row: the code of its name, its two keys' fields, and where the next row starts.
-#[derive(Drop)]
+#[derive(Clone, Copy)]
 pub(crate) struct RowAt {
     pub(crate) good: bool,
     pub(crate) code: u32,

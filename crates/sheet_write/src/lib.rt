@@ -21,7 +21,7 @@ use lent_text::{put, put_text};
 use query_item::{ItemWords, KeyAt};
 
 // What writing a sheet answers: how many bytes it has, or a refusal.
-#[derive(Drop)]
+#[derive(Clone, Copy)]
 pub enum SheetWritten {
     Bytes(usize),
     Refused(Refusal),

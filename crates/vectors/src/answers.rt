@@ -7,7 +7,7 @@ use query_item::pooled::key_bytes;
 use query_item::{ItemWords, KeyAt, MaybeItem};
 
 // How far the recorded answer is read, and whether all was the same so far.
-#[derive(Drop)]
+#[derive(Clone, Copy)]
 pub struct Held {
     pub at: usize,
     pub same: bool,

@@ -20,13 +20,13 @@ pub use counts::report;
 use key_order::{least, wide_u32};
 
 // A place in a slice that goes beside it.
-#[derive(Drop)]
+#[derive(Clone, Copy)]
 pub struct Cursor {
     pub at: usize,
 }
 
 // A case: its code, and the places of its blocks and of the next case.
-#[derive(Drop)]
+#[derive(Clone, Copy)]
 pub struct Case {
     pub code: u8,
     pub inputs: Cursor,
@@ -37,14 +37,14 @@ pub struct Case {
 }
 
 // Whether an answer is as recorded, and whether it is the original's, where that is another.
-#[derive(Drop)]
+#[derive(Clone, Copy)]
 pub struct Met {
     pub recorded: bool,
     pub rust: bool,
 }
 
 // How many answers are as recorded, and how many are not; and of the listed differences how many are answered as listed, and how many not.
-#[derive(Drop)]
+#[derive(Clone, Copy)]
 pub struct Tally {
     pub same: u64,
     pub other: u64,

@@ -15,7 +15,7 @@ use vectors::{Cursor, Met, long, on, short};
 const FRONT: Cursor = Cursor { at: 0 };
 
 // What a call on intervals and on a second list of numbers asks.
-#[derive(Drop)]
+#[derive(Clone, Copy)]
 pub(crate) enum Asked {
     Missing,
     Extra,

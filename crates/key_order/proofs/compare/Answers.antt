@@ -1,0 +1,6 @@
+-- `key_order::compare` meets its contract: the order of the number of the answer is the answer. Assumes nothing.
+use Rattle.key_order.proofs.Numbers.{order_number_lem}
+use Rattle.key_order.proofs.compare.Goals as goal
+
+pub returns : goal.returns
+returns c = rw (c.order_of.ensures, c.stand.ensures) (order_number_lem _)

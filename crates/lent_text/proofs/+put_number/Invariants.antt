@@ -1,0 +1,5 @@
+-- `put_number` calls itself for a tenth of the number. The measure is the number.
+use Rattle.lent_text.proofs.+put_number.Given as goal
+
+abbrev pub decreases-put_number : goal.decreases-put_number
+decreases-put_number l = l.n
