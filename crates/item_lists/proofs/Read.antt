@@ -1,6 +1,6 @@
 -- Items read back from their words: at the front of a list, of a list that has no others, and of items laid over a list. Assumes nothing.
 use Prim.Native.Nat.{ℕ, suc, ◌*◌, ◌/◌, ◌%◌}
-use mathlib.Core.Path.{◌≡◌, refl, ap, ap₂, ◌∙◌}
+use mathlib.Core.Path.{◌≡◌, refl, ap, ap₂, subst, ◌∙◌}
 use mathlib.Core.List.{List, [], ◌∷◌, ◌++◌, append_assoc, append-nil}
 use native.Mathlib.Nat.{add-zero}
 use native.Mathlib.Omega.{arith}
@@ -26,7 +26,8 @@ unfolding items_from flat_all
 items_read_lem [] pre rest i e = refl
 items_read_lem (it ∷ its) pre rest i e =
     ap₂ ◌∷◌ (item_read pre (flat_all its ++ rest) it i e)
-    (rw (← append_assoc pre (flat it) (flat_all its ++ rest)) (items_read_lem its (pre ++ flat it) rest (suc i) (rw length-append (omega arith))))
+    (subst (λ (ws : List ℕ). items_from ws (suc i) (length its) ≡ its) (append_assoc pre (flat it) (flat_all its ++ rest))
+    (items_read_lem its (pre ++ flat it) rest (suc i) (rw length-append (omega arith))))
 
 -- ---- words of items alone: six for each item, which are read back
 

@@ -1,6 +1,6 @@
 -- Packed items over the pool that their keys are packed into: each says its lane, and is plain. Assumes nothing.
 use Prim.Native.Nat.{ℕ, ◌+◌, ◌≤◌}
-use mathlib.Core.Path.{◌≡◌, refl, sym, ap₂}
+use mathlib.Core.Path.{◌≡◌, refl, sym, ap, ap₂, subst, ◌∙◌}
 use mathlib.Core.Bool.{Bool, true, false, cond}
 use mathlib.Core.List.{List, [], ◌∷◌, ◌++◌, map, append_assoc}
 use native.Mathlib.Omega.{arith}
@@ -40,7 +40,9 @@ unfolding packed_keys packed_items
 items_shown pre [] rest at none e = refl
 items_shown pre (l ∷ ls) rest at (more s ss) e =
     ap₂ ◌∷◌ (rw (append_assoc (l.start ++ l.end) (packed_keys ls) rest) (lane_shown_lem pre (packed_keys ls ++ rest) l at s e))
-    (rw (append_assoc (l.start ++ l.end) (packed_keys ls) rest, ← append_assoc pre (l.start ++ l.end) (packed_keys ls ++ rest))
+    (subst (λ (ws : List ℕ). map (lane_at ws) (packed_items (at + (length l.start + length l.end)) ls) ≡ ls)
+    (append_assoc pre (l.start ++ l.end) (packed_keys ls ++ rest)
+    ∙ ap (λ (ws : List ℕ). pre ++ ws) (sym (append_assoc (l.start ++ l.end) (packed_keys ls) rest)))
     (items_shown (pre ++ (l.start ++ l.end)) ls rest (at + (length l.start + length l.end)) ss
     (rw (length-append pre (l.start ++ l.end), length-append l.start l.end) (omega arith))))
 

@@ -1,0 +1,11 @@
+-- `insert_merge::larger_end` meets its contract: the answer of `compare_in` picks the end, the new one on a tie. Assumes nothing.
+use Rattle.insert_merge.proofs.larger_end.Goals as goal
+
+pub returns-in-Less : goal.returns-in-Less
+returns-in-Less c = rw (← c.compare_in.ensures, c.in-Less.is)
+
+pub returns-in-Equal : goal.returns-in-Equal
+returns-in-Equal c = rw (← c.compare_in.ensures, c.in-Equal.is)
+
+pub returns-in-Greater : goal.returns-in-Greater
+returns-in-Greater c = rw (← c.compare_in.ensures, c.in-Greater.is)

@@ -1,0 +1,25 @@
+use Prim.Native.Nat.{◌-◌}
+use mathlib.Core.Path.{sym, ◌∙◌}
+use native.Mathlib.Nat.{sub-zero}
+use borrow.Author.Rules.{rules}
+use Rattle.item_check.specs.Checks.{item_fault}
+use Rattle.item_check.proofs.Laws.{bad_end, bad_here, bad_next}
+use Rattle.pool_collect.proofs.check.check_faults.Goals as goal
+
+pub loop-i-init : goal.loop-i-init
+loop-i-init c = (search rules, rw sub-zero)
+
+pub returns-then-fault-ne0 : goal.returns-then-fault-ne0
+returns-then-fault-ne0 c = c.refuse.ensures
+    ∙ sym (c.loop-i.invariant.1
+    ∙ bad_here _ _ _ _ _ c.loop-i-test.true (c.item_fault-fault.ensures ∙ rw c.item_at.ensures) c.if-fault-ne0.true)
+
+pub loop-i-preserved : goal.loop-i-preserved
+loop-i-preserved c = (
+  search rules,
+  c.loop-i.invariant.1
+      ∙ bad_next _ _ _ _ _ c.loop-i-test.true (c.item_fault-fault.ensures ∙ rw c.item_at.ensures) c.if-fault-ne0.false,
+)
+
+pub returns : goal.returns
+returns c = sym (c.loop-i.invariant.1 ∙ bad_end _ _ _ _ _ c.loop-i-test.false)

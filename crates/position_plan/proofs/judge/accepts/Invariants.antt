@@ -1,0 +1,12 @@
+-- `accepts` meets its contract. The invariant is `Judges`: the plan is good exactly if the windows that are left are, for the missing rows from
+-- the first run on. The measure is how many windows are left. Assumes nothing.
+use Prim.Native.Nat.{◌-◌, ◌/◌}
+use lib.ListN.{length}
+use Rattle.position_plan.proofs.Judging.{Judges}
+use Rattle.position_plan.proofs.judge.accepts.Given as goal
+
+abbrev pub invariant-loop-i : goal.invariant-loop-i
+invariant-loop-i l = Judges l.intervals l.proved l.most l.windows (length l.windows / 2) l.first l.i
+
+abbrev pub decreases-loop-i : goal.decreases-loop-i
+decreases-loop-i l = l.count - l.i

@@ -1,0 +1,31 @@
+use native.Mathlib.Omega.{arith}
+use borrow.Author.Rules.{rules}
+use Rattle.position_given.proofs.Widths.{Words}
+use Rattle.position_plan.proofs.Opening.{search_start, search_on}
+use Rattle.position_plan.proofs.Passes.{passed_start, passed_fits, passed_full, counted_more, counted_fewer}
+use Rattle.position_plan.proofs.windows.windows_fit.Goals as goal
+
+pub next_missing-run-requires : goal.next_missing-run-requires
+next_missing-run-requires c = search_start c.requires
+
+pub loop-run-init : goal.loop-run-init
+loop-run-init c = (passed_start c.requires c.next_missing-run.ensures, omega arith)
+
+-- the room is used up, and a window is left
+pub returns-then-n-room : goal.returns-then-n-room
+returns-then-n-room c = passed_full c.requires c.loop-run.invariant.0 c.loop-run-test.true c.if-n-room.true
+
+pub next_missing-run-requires-in-loop-run : goal.next_missing-run-requires-in-loop-run
+next_missing-run-requires-in-loop-run c = search_on c.requires c.loop-run.invariant.0.run (omega (arith, c.saturating_add-limit.ensures, c.struct_known-1.given))
+
+pub loop-run-smaller : goal.loop-run-smaller
+loop-run-smaller c = let U : Words c.args.intervals.now = record { fits = λ k. omega (arith, c.type_inv.intervals k) } in
+    counted_fewer c.requires c.loop-run.invariant.0 U c.loop-run-test.true c.saturating_add-limit.ensures c.next_missing-run-in-loop-run.ensures
+
+pub loop-run-preserved : goal.loop-run-preserved
+loop-run-preserved c = let U : Words c.args.intervals.now = record { fits = λ k. omega (arith, c.type_inv.intervals k) } in
+    (counted_more c.requires c.loop-run.invariant.0 U c.loop-run-test.true c.saturating_add-limit.ensures c.next_missing-run-in-loop-run.ensures, search rules)
+
+-- no window is left
+pub returns : goal.returns
+returns c = passed_fits c.requires c.loop-run.invariant.0 c.loop-run-test.false c.loop-run.invariant.1

@@ -1,0 +1,17 @@
+use Prim.Native.Nat.{◌-◌}
+use native.Mathlib.Omega.{arith}
+use Rattle.sheet_row.specs.Fields.{is_text}
+use Rattle.sheet_read.proofs.Places.{run_start_lem, run_more, run_stop, run_end}
+use Rattle.sheet_read.proofs.row.text_end.Goals as goal
+
+pub loop-i-init : goal.loop-i-init
+loop-i-init c = run_start_lem _ _ _ (omega arith)
+
+pub returns-then-not-is_text : goal.returns-then-not-is_text
+returns-then-not-is_text c = run_stop c.loop-i.invariant c.loop-i-test.true c.is_text.ensures c.if-not-is_text.true-raw
+
+pub loop-i-preserved : goal.loop-i-preserved
+loop-i-preserved c = run_more c.loop-i.invariant c.loop-i-test.true c.is_text.ensures c.if-not-is_text.false-raw
+
+pub returns : goal.returns
+returns c = run_end c.loop-i.invariant c.loop-i-test.false
