@@ -22,7 +22,7 @@ CARGO := env -u MAKEFLAGS -u MFLAGS cargo
 FERNSPONGE = $(CARGO) run --quiet --offline --manifest-path cli/Cargo.toml --
 COMPARE = GROVEDB_SRC="$(GROVEDB_SRC)" $(CARGO) run --quiet --release --offline --manifest-path compare/Cargo.toml --
 
-.PHONY: run test prove beside lib compare compare-short cents multiranges sheets bench record attack attack-short \
+.PHONY: run test beside lib compare compare-short cents multiranges sheets bench record attack attack-short \
     link-short link-c link-c++ link-installed link-rust clippy install clean help kit sources
 
 # What `make help` shows.
@@ -46,22 +46,23 @@ run:
 	@$(MAKE) --no-print-directory target/krl.log
 	@tools/run-program krl <"$(FILE)"
 
-target/krl.log: crates.txt $(shell find crates -name '*.rt' -o -name '*.antt')
+target/krl.log: crates.txt $(shell find crates -path '*/out' -prune -o \( -name '*.rt' -o -name '*.antt' \) -print)
 	@echo "make: proving and building krl; from nothing that takes some minutes" >&2
 	@tools/progress krl
+	@mkdir -p target
 	@touch $@
 
-# The gate. `rt ci` proves every crate from nothing and then tries the edits that must fail. Beside that, what it has proved is made a library,
-# compared with the original, linked, and attacked. Both have to pass; `rt ci` takes longer, and its count is the last line.
+# The gate. What the crates make is first compared with the original, linked, and attacked. Then `rt ci` proves every crate from nothing, tries the
+# edits that must fail, and runs each program as two compilers make it. Both have to pass; `rt ci` takes longer, and its count is the last line.
 test:
 	@tools/have rt
 	@for command in cargo cc python3; do command -v $$command >/dev/null || echo "make: $$command is not on the PATH: what needs it is left out"; done
 	@$(MAKE) --no-print-directory kit
-	rt fmt --check
 	tools/trace
 	tools/pages
 	@rm -rf target
-	@$(MAKE) --no-print-directory --jobs=2 beside prove
+	@$(MAKE) --no-print-directory beside
+	tools/gate
 
 # Whether this is the kit that all was last proved with. Another one may well prove it too: the gate tells, and this only says why it might not.
 kit:
@@ -71,13 +72,9 @@ kit:
 	    echo "kit: WARNING: the proofs were last checked with $$pinned (kit-version), and this is $$used"; \
 	fi
 
-prove:
-	rt ci || { mkdir -p target; touch target/refused; exit 1; }
-
-# Begins with the first edit that is tried: every crate has then been proved or refused, so that none is proved again but the library itself.
+# What is tried beside the proofs, by the checks of a working copy: `rt ci` counts none of these.
 beside:
-	@until [ -d target/must-fail ] || [ -f target/refused ]; do sleep 1; done
-	@[ ! -x target/bin/krl ] || touch target/krl.log
+	@mkdir -p target
 	@{ $(MAKE) --no-print-directory lib && $(MAKE) --no-print-directory compare-short && $(MAKE) --no-print-directory link-short && \
 	    $(MAKE) --no-print-directory attack-short; } \
 	    >target/beside.log 2>&1 || { cat target/beside.log; echo "make: what is tried beside the proofs failed"; exit 1; }
@@ -116,7 +113,7 @@ install: lib
 
 # What was made, proofs too: the next `make` begins from nothing.
 clean:
-	rm -rf target rust/target compare/target cli/target
+	rm -rf target rust/target compare/target cli/target crates/*/out
 
 help:
 	@sed -n 's/^#: //p' Makefile

@@ -3,6 +3,8 @@
 // Definitions: specs/Kinds.antt, specs/Rungs.antt; the order itself is `compare_boundaries` of `key_order`. Laws: proofs/Rungs.antt.
 //
 // A function marked "inner" is public only because other crates need it. It checks nothing: its definition covers every input.
+#![tactic(auto)]
+
 ghost use Rattle.std.specs.Prelude.{◌≡◌};
 ghost use Rattle.key_order.specs.Order.{then_by};
 ghost use Rattle.key_order.specs.Boundary.{compare_boundaries};

@@ -8,14 +8,14 @@ use Rattle.intersect_many.specs.Lists.{shared_items, only_items, many_answer}
 use Rattle.fernsponge.specs.Answers.{maybe_numbers, returned, left}
 
 -- 01 m3.6: the pair: it returns r, and the five places, which held in_both and the others, are left with the parts, each an item that may be missing
-pub record GivesPair (answer : Answer QueryItemIntersectionResult) (in_both ours-left ours-right theirs-left theirs-right : List ℕ)
-    (r : ℕ) (in-both' ours-left' ours-right' theirs-left' theirs-right' : List ℕ) : Type 0 where
+pub record GivesPair (answer : Answer QueryItemIntersectionResult) (in_both ours_left ours_right theirs_left theirs_right : List ℕ)
+    (r : ℕ) (in_both' ours_left' ours_right' theirs_left' theirs_right' : List ℕ) : Type 0 where
   pub number : r ≡ returned answer
-  pub shared : in-both' ≡ left (λ p. maybe_numbers p.in_both) answer in_both
-  pub ours_before : ours-left' ≡ left (λ p. maybe_numbers p.ours_left) answer ours-left
-  pub ours_after_lem : ours-right' ≡ left (λ p. maybe_numbers p.ours_right) answer ours-right
-  pub theirs_before : theirs-left' ≡ left (λ p. maybe_numbers p.theirs_left) answer theirs-left
-  pub theirs_after_lem : theirs-right' ≡ left (λ p. maybe_numbers p.theirs_right) answer theirs-right
+  pub shared : in_both' ≡ left (λ p. maybe_numbers p.in_both) answer in_both
+  pub ours_before : ours_left' ≡ left (λ p. maybe_numbers p.ours_left) answer ours_left
+  pub ours_after : ours_right' ≡ left (λ p. maybe_numbers p.ours_right) answer ours_right
+  pub theirs_before : theirs_left' ≡ left (λ p. maybe_numbers p.theirs_left) answer theirs_left
+  pub theirs_after : theirs_right' ≡ left (λ p. maybe_numbers p.theirs_right) answer theirs_right
 
 -- 01 change.2: the three lists: how many items each has
 abbrev pub count_numbers : ManyCounts → List ℕ

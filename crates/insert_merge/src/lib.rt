@@ -4,6 +4,8 @@
 // (what is taken out lies within the result), proofs/Converted.antt (what a result shows).
 //
 // A function marked "inner" is public only because another crate needs it. It checks nothing: its definition covers every input.
+#![tactic(auto)]
+
 ghost use Rattle.std.specs.Prelude.{◌≡◌, ◌&&◌, ◌-◌};
 ghost use Rattle.query_item.specs.Items.{items_from};
 ghost use Rattle.insert_order.specs.Order.{plain};

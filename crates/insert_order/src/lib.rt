@@ -5,6 +5,8 @@
 // proofs/Ranked.antt (the order goes by what items show, and by their ranks).
 //
 // A function marked "inner" is public only because `insert` needs it. Its definition covers every input.
+#![tactic(auto)]
+
 ghost use Rattle.std.specs.Prelude.{◌≡◌, ◌-◌};
 ghost use Rattle.query_item.specs.Items.{items_from};
 ghost use Rattle.query_item.specs.Boundaries.{range_of};

@@ -2,6 +2,8 @@
 // Definitions: specs/Pair.antt. Laws: proofs/Laws.antt (which keys the pair holds), proofs/Ranked.antt (the pair in ranks).
 //
 // A function marked "inner" is public only because other crates need it. Its definition covers every input.
+#![tactic(auto)]
+
 pub mod pair;
 
 use item_check::Refusal;

@@ -4,6 +4,8 @@
 //
 // One pass over both lists with two indexes. Our item and theirs, at the indexes, and what is left of them are kept beside these: an item is read
 // when its index moves.
+#![tactic(auto)]
+
 ghost use Rattle.std.specs.Prelude.{◌≡◌, true, false, cond, [], ◌+◌, ◌/◌, ◌≤◌, length};
 ghost use Rattle.query_item.specs.Items.{item_size};
 ghost use Rattle.item_check.specs.Checks.{verdict_of};

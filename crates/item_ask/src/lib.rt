@@ -1,6 +1,8 @@
 // Module 2 of document 01: the calls on a single item, each of which checks its input: both conversions, whether an item holds a key, and
 // whether keys that it holds may stand in a direction; the last two are asked of the item's borrowed range. Items need not be upright.
 // Definitions: specs/Asked.antt, specs/Calls.antt. Laws: proofs/Laws.antt.
+#![tactic(auto)]
+
 ghost use Rattle.std.specs.Prelude.{◌≡◌};
 ghost use Rattle.item_ask.specs.Calls.{range_answer_of, item_answer_of, containment_of, direction_of, to_range_set_answer, to_query_item_answer, containment_answer, direction_answer};
 

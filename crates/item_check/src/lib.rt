@@ -1,6 +1,8 @@
 // Module 2 of document 01: the refusals, and the checks of items and lists of items in the order that the document fixes. Every call that is
 // lent items refuses by these. What a crate above checks besides stands there: the order of a list that is inserted into, position items,
 // intervals and proved positions, a report, a file. Module 1 refuses nothing. Definitions: specs/Checks.antt. Laws: proofs/Laws.antt.
+#![tactic(auto)]
+
 ghost use Rattle.std.specs.Prelude.{◌≡◌, ◌||◌, eqb};
 ghost use Rattle.query_item.specs.Items.{key_at, item_words, item_at, items_from};
 ghost use Rattle.query_item.specs.Boundaries.{set_at, upright};

@@ -3,6 +3,8 @@
 // proofs/Read.antt, by which a written list is read back, and proofs/Words.antt, of an item written among others.
 //
 // Every function is inner: it is public only because other crates need it, checks nothing, and its definition covers every input.
+#![tactic(auto)]
+
 ghost use Rattle.std.specs.Prelude.{◌≡◌, length};
 ghost use Rattle.item_lists.specs.Written.{as_items, passes, put_all};
 

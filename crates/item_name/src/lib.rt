@@ -2,6 +2,8 @@
 // proofs/Laws.antt.
 //
 // Every function is inner: it is public only because other crates need it, checks nothing, and its definition covers every input.
+#![tactic(auto)]
+
 ghost use Rattle.std.specs.Prelude.{◌≡◌, cond, ◌≤◌, length};
 ghost use Rattle.query_item.specs.Items.{same};
 ghost use Rattle.lent_text.specs.Text.{stored};

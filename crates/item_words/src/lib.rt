@@ -3,6 +3,8 @@
 // Definitions: specs/Items.antt of `query_item`, and laws in its proofs/Words.antt.
 //
 // A function marked "inner" is public only because other crates need it. It checks nothing: its definition covers every input.
+#![tactic(auto)]
+
 ghost use Rattle.std.specs.Prelude.{◌≡◌, ◌*◌, ◌/◌, ◌<◌, length, get_or};
 ghost use Rattle.std.proofs.lemmas.List.Edits.{sets};
 ghost use Rattle.query_item.specs.Items.{item_of, item_size, item_at, query_item, item_words, with_keys, words_of, flat, with_item};

@@ -5,6 +5,8 @@
 //
 // An enum goes through memory from a function to its caller, a number in a register. So `stand` has the work and answers a number, and what
 // makes an order of it is small enough to vanish in its callers.
+#![tactic(auto)]
+
 ghost use Rattle.std.specs.Prelude.{◌≡◌, true, cond, ◌+◌, ◌<◌, ◌≤◌, min, length, drop};
 ghost use Rattle.key_order.specs.Order.{compare_numbers, compare_keys, smaller, order_number, number_order, is_less, is_at_most, is_equal, is_greater};
 ghost use Rattle.key_order.specs.Words.{be};

@@ -1,5 +1,7 @@
 // Module 7 of document 01: the text of a key in lent bytes, written or only counted: `write` says which.
 // Definitions: specs/Text.antt. Laws: proofs/Laws.antt.
+#![tactic(auto)]
+
 ghost use Rattle.std.specs.Prelude.{◌≡◌, ◌+◌, ◌≤◌, ◌<◌, length};
 ghost use Rattle.lent_text.specs.Text.{stored};
 ghost use Rattle.key_text.specs.Text.{hex_digit, hex_byte, hex_text, key_text, marked_key, spaced_key};

@@ -4,6 +4,8 @@
 // The public function is inner: another crate needs it, it checks nothing, and its definition covers every input. Each list asks it of every
 // piece: the kinds, at which conversion looks anyway, leave it open for two pairs of them alone; then lengths decide, then the last byte, then
 // the bytes before it.
+#![tactic(auto)]
+
 ghost use Rattle.std.specs.Prelude.{◌≡◌, []};
 ghost use Rattle.key_order.specs.Order.{compare_keys, is_equal};
 ghost use Rattle.query_item.specs.Items.{bytes_of};

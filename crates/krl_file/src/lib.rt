@@ -1,6 +1,8 @@
 // Module 7 of document 01: the KRL file, read from a slice to lent lists of items. Definitions: specs/File.antt. Laws: proofs/Laws.antt.
 //
 // The pool is not copied: it is a part of the file. Everything is decided before the first word is written.
+#![tactic(auto)]
+
 ghost use Rattle.std.specs.Prelude.{◌≡◌, true, ◌+◌, ◌*◌, ◌/◌, ◌<◌, ◌≤◌, length};
 ghost use Rattle.query_item.specs.Items.{item_size};
 ghost use Rattle.item_lists.specs.Written.{laid_over, written};

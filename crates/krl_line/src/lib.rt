@@ -2,6 +2,8 @@
 // no such line is longer than 57 bytes.
 //
 // `refusal_line` is inner, as are the functions of `lent_text` that it calls: what has no room is left out, and whoever calls it lends enough.
+#![tactic(auto)]
+
 ghost use Rattle.std.specs.Prelude.{◌≡◌, true, ◌≤◌, length};
 ghost use Rattle.lent_text.specs.Text.{stored};
 ghost use Rattle.krl_line.specs.Lines.{side_text, place_text, refusal_line, PutFront};

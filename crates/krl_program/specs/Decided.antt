@@ -19,7 +19,7 @@ use Rattle.krl_program.specs.Program.{our_words, their_words, list_room, program
 -- no more bytes were read than were lent
 abbrev pub Within : Input → List ℕ → Type 0
 Within (Bytes n) file = n ≤ length file
-Within Failed file = Unit {0}
+Within (Failed e) file = Unit {0}
 
 -- the room that the program lends: for the records of the longest file, and for each of the three lists
 abbrev pub most_records : ℕ
@@ -57,7 +57,7 @@ pub record Asked (file shared_out ours_out theirs_out : List ℕ) (r : ManyAnswe
 -- writing that came to an end without a failure came to the last line
 abbrev pub AllWritten : Output → List ℕ → Type 0
 AllWritten (Lines n) file = n ≡ length (program_lines file)
-AllWritten output.Failed file = Unit {0}
+AllWritten (output.Failed e) file = Unit {0}
 
 -- the first n of the lent bytes are the line
 pub record Given (file : List ℕ) (i : ℕ) (line : List ℕ) (n : ℕ) : Type 0 where

@@ -3,6 +3,8 @@
 //
 // A file is read whole, its answer is decided (`decide`), and then line after line of it is asked for (`line_of`) and written. No contract can
 // say what is read or written; that the i-th line is the i-th of `program_lines`, and that there are so many, is proved.
+#![tactic(auto)]
+
 ghost use Rattle.std.specs.Prelude.{◌≡◌, ◌+◌, ◌*◌, ◌≤◌, length, take};
 ghost use Rattle.query_item.specs.Items.{item_size};
 ghost use Rattle.krl_file.specs.File.{most_file};
@@ -15,30 +17,36 @@ use item_words::ITEM_SIZE;
 use krl_file::{FileAnswer, pool_of, read_file};
 use krl_line::refusal_line;
 use krl_listing::{MAX_LINE, listing_line};
-use libc::STDOUT_FILENO;
+use std::io;
+use std::io::Read;
 
 // What reading came to: how many bytes, to the end of the input or of the lent bytes.
 #[derive(Clone, Copy)]
 enum Input {
     Bytes(usize),
-    Failed,
+    Failed(io::Error),
 }
 
 // What writing came to: how many lines, which are all.
 #[derive(Clone, Copy)]
 enum Output {
     Lines(usize),
-    Failed,
+    Failed(io::Error),
 }
 
-// inner: reads a KRL file from a descriptor to its end, and writes its listing or refusal to standard output. Where reading or writing fails,
-// one line on standard error says so, and nothing more is written.
-pub fn run(input: i32) {
+// inner: reads a KRL file to the end of the input, and writes its listing or refusal to standard output. Where reading or writing fails, one
+// line on standard error says so, and nothing more is written.
+pub fn run<R: Read>(rt: &(impl Print + Eprint), input: &mut R) {
     let mut file = file_room();
     match read_all(input, &mut file) {
-        Input::Failed => os::fail(b"krl: standard input"),
-        Input::Bytes(n) => write_answer(&file[..n]),
+        Input::Failed(error) => tell(rt, "input", error),
+        Input::Bytes(n) => write_answer(rt, &file[..n]),
     }
+}
+
+// Writes the line of a failure. Where that cannot be written either, nothing is left to do.
+fn tell(rt: &impl Eprint, stream: &str, error: io::Error) {
+    let _ = eprintln!(rt; "krl: standard {stream}: {error}");
 }
 
 // One byte more than a file may have, so that a longer one shows.
@@ -49,26 +57,22 @@ fn file_room() -> [u8; 65537]
 }
 
 // Reads until the input ends or the lent bytes are full. What comes in parts is waited for; a read that fails is not the end.
-fn read_all(input: i32, file: &mut [u8]) -> Input
+fn read_all<R: Read>(input: &mut R, file: &mut [u8]) -> Input
     ensures { Within result file.new }
 {
     let mut done: usize = 0;
     while done < file.len() {
-        let got = libc::read(input, &mut file[done..]);
-        if got < 0 {
-            return Input::Failed;
+        match input.read(&mut file[done..]) {
+            Ok(0) => return Input::Bytes(done),
+            Ok(more) => done += more,
+            Err(error) => return Input::Failed(error),
         }
-        let more = io::count(got, &file[done..]);
-        if more == 0 {
-            return Input::Bytes(done);
-        }
-        done += more;
     }
     Input::Bytes(done)
 }
 
 // The file's lists and the three lists have their places here, and go no further.
-fn write_answer(file: &[u8]) {
+fn write_answer(rt: &(impl Print + Eprint), file: &[u8]) {
     let mut our_room = records_room();
     let mut their_room = records_room();
     let mut shared_out_room = list_room();
@@ -80,8 +84,8 @@ fn write_answer(file: &[u8]) {
     let ours_out: &mut [u32] = &mut ours_out_room;
     let theirs_out: &mut [u32] = &mut theirs_out_room;
     let answer = decide(file, ours, theirs, shared_out, ours_out, theirs_out);
-    match write_lines(file, shared_out, ours_out, theirs_out, answer) {
-        Output::Failed => os::fail(b"krl: standard output"),
+    match write_lines(rt, file, shared_out, ours_out, theirs_out, answer) {
+        Output::Failed(error) => tell(rt, "output", error),
         Output::Lines(_) => {}
     }
 }
@@ -140,6 +144,7 @@ fn front(words: &[u32], count: usize) -> &[u32]
 
 // Asks for line after line of an answer and writes it, to the last one or to one that cannot be written.
 fn write_lines(
+    rt: &impl Print,
     file: &[u8],
     shared_out: &[u32],
     ours_out: &[u32],
@@ -155,10 +160,10 @@ fn write_lines(
     let mut i: usize = 0;
     while i < lines {
         let n = line_of(file, shared_out, ours_out, theirs_out, answer, i, line);
-        if !io::write_all(STDOUT_FILENO, &line[..n]) {
-            return Output::Failed;
+        match rt.write_all(&line[..n]) {
+            Ok(()) => i += 1,
+            Err(error) => return Output::Failed(error),
         }
-        i += 1;
     }
     Output::Lines(i)
 }

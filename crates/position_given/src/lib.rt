@@ -4,6 +4,8 @@
 // positions, proofs/Positions.antt; of widths and rows, proofs/Widths.antt and proofs/Rows.antt.
 //
 // Every function is inner: it is public only because other crates need it, and its definition covers every input.
+#![tactic(auto)]
+
 ghost use Rattle.std.specs.Prelude.{◌≡◌, ◌+◌, min};
 ghost use Rattle.item_check.specs.Checks.{verdict_of, refused};
 ghost use Rattle.position_given.specs.Given.{intervals_of, even_verdict, intervals_verdict, ascending_verdict, proved_verdict};

@@ -3,6 +3,8 @@
 // that a proof carries, and `position_joined` has the laws of these calls one after the other. Intervals are accepted where they are canonical:
 // of any positions there is at most one such list, and no list of half-open pairs that covers them has fewer (02 §14.1, §14.2).
 // Definitions: specs/Asked.antt. Laws: proofs/Laws.antt.
+#![tactic(auto)]
+
 pub mod ask;
 
 use item_check::Refusal;

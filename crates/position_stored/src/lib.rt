@@ -7,6 +7,8 @@
 //
 // The check counts the rows afresh. A change finds its place by halving, works out the new numbers from the pairs that it touches, and only then
 // writes: the tail behind these is moved once, where it moves at all, and freed words are set to 0.
+#![tactic(auto)]
+
 pub mod change;
 mod tail;
 pub mod total;

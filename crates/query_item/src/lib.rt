@@ -3,6 +3,8 @@
 // Definitions: specs/Items.antt (the table, and what items show), specs/Boundaries.antt (order, conversions). Laws: proofs/Laws.antt.
 //
 // A function marked "inner" is public only because other crates need it. It checks nothing: its definition covers every input.
+#![tactic(auto)]
+
 pub mod convert;
 pub mod pooled;
 

@@ -1,6 +1,8 @@
 // Module 2 of document 01: the borrowed range, two keys as lent bytes beside their kinds; nothing is copied. It is made from an item and a
 // pool, and asked about a key. A function over the struct is thin: the work is done on plain slices.
 // Definitions: specs/Kinds.antt, specs/Borrowed.antt. Laws: proofs/Laws.antt.
+#![tactic(auto)]
+
 ghost use Rattle.std.specs.Prelude.{◌≡◌};
 ghost use Rattle.query_item.specs.Items.{bytes_of};
 ghost use Rattle.query_item.specs.Boundaries.{range_of, key_of, kind_of, boundary_of};

@@ -1,5 +1,6 @@
 // What is counted, and the lines that tell it.
 use crate::{Met, Tally};
+use std::io;
 
 impl Tally {
     pub fn new() -> Self {
@@ -62,25 +63,17 @@ fn more(n: u64) -> u64 {
 }
 
 // Writes the counts, or that the sample is cut short or malformed.
-pub fn report(is_whole: bool, t: Tally) {
+pub fn report(rt: &impl Print, is_whole: bool, t: Tally) -> io::Result<()> {
     if is_whole {
-        io::print_decimal(1, t.same);
-        io::write_all(1, b" calls as recorded, ");
-        io::print_decimal(1, t.other);
-        io::write_all(1, b" not\n");
-        report_listed(t.listed, t.unlisted);
-        return;
+        println!(rt; "{} calls as recorded, {} not", t.same, t.other)?;
+        return report_listed(rt, t.listed, t.unlisted);
     }
-    io::write_all(1, b"the sample is cut short or malformed\n");
+    println!(rt; "the sample is cut short or malformed")
 }
 
-fn report_listed(listed: u64, unlisted: u64) {
-    io::print_decimal(1, listed);
+fn report_listed(rt: &impl Print, listed: u64, unlisted: u64) -> io::Result<()> {
     if unlisted == 0 {
-        io::write_all(1, b" listed differences, each answered as listed\n");
-        return;
+        return println!(rt; "{listed} listed differences, each answered as listed");
     }
-    io::write_all(1, b" listed differences answered as listed, ");
-    io::print_decimal(1, unlisted);
-    io::write_all(1, b" not\n");
+    println!(rt; "{listed} listed differences answered as listed, {unlisted} not")
 }

@@ -9,15 +9,19 @@
 // both keys, 2 bytes each.
 //
 // Every reading is total: past the end a byte is 0, and the place after it is the end.
+#![tactic(auto)]
+
 pub mod answers;
 mod counts;
 pub mod inputs;
 pub mod lent;
 
-ghost use Rattle.std.specs.Prelude.{◌<◌, ◌≡◌, length};
+ghost use Rattle.std.specs.Prelude.{◌<◌, ◌≤◌, ◌≡◌, IfOk, length};
 
 pub use counts::report;
 use key_order::{least, wide_u32};
+use std::io;
+use std::io::Read;
 
 // A place in a slice that goes beside it.
 #[derive(Clone, Copy)]
@@ -62,6 +66,21 @@ pub fn buffer() -> [u8; 393216]
     ensures { 393216 ≡ length result }
 {
     [0; 393216]
+}
+
+// Reads into the lent bytes until they are full or the input ends, and answers how many it has read.
+pub fn read_sample(input: &mut impl Read, s: &mut [u8]) -> io::Result<usize>
+    ensures { IfOk result (λ n. n ≤ length s.new) }
+{
+    let mut done = 0;
+    while done < s.len() {
+        let more = input.read(&mut s[done..])?;
+        if more == 0 {
+            break;
+        }
+        done += more;
+    }
+    Ok(done)
 }
 
 // Whether a sample has its mark and its length.

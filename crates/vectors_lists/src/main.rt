@@ -1,28 +1,29 @@
 // Replays recorded answers of modules 3 and 4, by the code of the call: 1 intersect_items, 2 intersect_many_ordered, 3 our list after
 // intersect_many_ordered.
+#![tactic(auto)]
+
 mod many;
 mod pair;
 
+use std::io;
 use vectors::answers::nothing_met;
 use vectors::{Case, Met, Tally, block};
 
-fn main() {
+fn main(rt: HostRuntime) -> io::Result<()> {
     let mut buffer = vectors::buffer();
-    let n = io::read_full(0, &mut buffer);
-    replay(&buffer[..n]);
+    let n = vectors::read_sample(&mut rt.reader(), &mut buffer)?;
+    replay(&rt, &buffer[..n])
 }
 
-fn replay(s: &[u8]) {
+fn replay(rt: &impl Print, s: &[u8]) -> io::Result<()> {
     let mut at = vectors::first_case();
     let mut tally = Tally::new();
-    let mut left = vectors::case_count(s);
-    while 0 < left {
+    for _ in 0..vectors::case_count(s) {
         let case = vectors::case_at(s, at);
         tally = tally.with(case.listed, replay_case(s, case));
         at = case.next;
-        left -= 1;
     }
-    vectors::report(vectors::is_sample(s) & vectors::is_end(s, at), tally);
+    vectors::report(rt, vectors::is_sample(s) & vectors::is_end(s, at), tally)
 }
 
 fn replay_case(s: &[u8], case: Case) -> Met {

@@ -1,31 +1,32 @@
 // Replays recorded answers of module 6, by the code of the call: 1 be_u64, 2 from_query_items, 3 contains, 4 len, 5 is_empty, 6 missing_from,
 // 7 extra_in, 8 missing_from_spans on the spans' words, 9 describe.
+#![tactic(auto)]
+
 mod asked;
 mod query;
 mod reports;
 mod words;
 
 use crate::reports::Asked;
+use std::io;
 use vectors::answers::nothing_met;
 use vectors::{Case, Cursor, Met, Tally, block, short};
 
-fn main() {
+fn main(rt: HostRuntime) -> io::Result<()> {
     let mut buffer = vectors::buffer();
-    let n = io::read_full(0, &mut buffer);
-    replay(&buffer[..n]);
+    let n = vectors::read_sample(&mut rt.reader(), &mut buffer)?;
+    replay(&rt, &buffer[..n])
 }
 
-fn replay(s: &[u8]) {
+fn replay(rt: &impl Print, s: &[u8]) -> io::Result<()> {
     let mut at = vectors::first_case();
     let mut tally = Tally::new();
-    let mut left = vectors::case_count(s);
-    while 0 < left {
+    for _ in 0..vectors::case_count(s) {
         let case = vectors::case_at(s, at);
         tally = tally.with(case.listed, replay_case(s, case));
         at = case.next;
-        left -= 1;
     }
-    vectors::report(vectors::is_sample(s) & vectors::is_end(s, at), tally);
+    vectors::report(rt, vectors::is_sample(s) & vectors::is_end(s, at), tally)
 }
 
 fn replay_case(s: &[u8], case: Case) -> Met {

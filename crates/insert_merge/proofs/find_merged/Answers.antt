@@ -1,8 +1,6 @@
-use Prim.Native.Nat.{◌-◌}
 use mathlib.Core.Path.{refl, sym, ◌∙◌}
 use native.Mathlib.Omega.{arith}
 use borrow.Author.Rules.{rules}
-use Rattle.insert_merge.specs.Merge.{staying}
 use Rattle.insert_merge.proofs.Staying.{one_at_most}
 use Rattle.insert_merge.proofs.Reading.{merged_more, merged_end, stay_more, stay_end}
 use Rattle.insert_merge.proofs.find_merged.Goals as goal

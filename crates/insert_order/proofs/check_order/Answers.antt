@@ -1,4 +1,3 @@
-use Prim.Native.Nat.{◌-◌}
 use mathlib.Core.Path.{sym, ◌∙◌}
 use native.Mathlib.Omega.{arith}
 use Rattle.insert_order.proofs.Seen.{seen_start, seen_more, seen_next, quick_some, quick_none, clear_none, order_start, order_here, order_next, order_end}

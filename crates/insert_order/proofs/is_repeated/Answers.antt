@@ -1,6 +1,4 @@
-use Prim.Native.Nat.{◌-◌}
 use mathlib.Core.Path.{refl, sym, ◌∙◌}
-use Rattle.insert_order.specs.Passes.{repeats}
 use Rattle.insert_order.proofs.Reading.{repeats_here, repeats_next, repeats_end}
 use Rattle.insert_order.proofs.is_repeated.Goals as goal
 

@@ -1,4 +1,4 @@
-use Prim.Native.Nat.{ℕ, ◌-◌, ◌/◌, ◌≤◌, ◌<◌}
+use Prim.Native.Nat.{ℕ, ◌/◌, ◌≤◌, ◌<◌}
 use mathlib.Core.Path.{◌≡◌, refl, sym, ◌∙◌}
 use mathlib.Core.Bool.{Bool, true, false, ◌&&◌, false≢true}
 use mathlib.Core.Logic.{◌⊎◌, inl, inr}
@@ -7,7 +7,6 @@ use lib.ListN.{length}
 use lib.Dec.{ltb}
 use borrow.Author.Tests.{ltb-true, ltb-false}
 use Rattle.query_item.specs.Items.{item_size}
-use Rattle.query_item.specs.Boundaries.{set_at}
 use Rattle.item_check.proofs.Laws.{accepted_list}
 use Rattle.item_lists.proofs.Written.{left_done, left_finish}
 use Rattle.intersect_many.proofs.Rests.{rest_few}

@@ -1,11 +1,9 @@
-use Prim.Native.Nat.{◌-◌}
 use mathlib.Core.Path.{◌≡◌, refl, sym, ◌∙◌}
 use mathlib.Core.Bool.{false}
 use native.Mathlib.Nat.{sub-zero}
 use lib.Dec.{eqb}
 use borrow.Author.Rules.{rules}
 use borrow.Author.Tests.{eqb-true, eqb-false}
-use Rattle.item_check.specs.Checks.{upright_fault}
 use Rattle.item_check.proofs.Scans.{bad_end, bad_here, bad_next}
 use Rattle.item_check.proofs.check_items.Goals as goal
 

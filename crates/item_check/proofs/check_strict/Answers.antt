@@ -1,4 +1,3 @@
-use Prim.Native.Nat.{◌-◌}
 use mathlib.Core.Path.{sym, ◌∙◌}
 use Rattle.item_check.proofs.Scans.{break_end, break_here, break_next, strict_start}
 use Rattle.item_check.proofs.check_strict.Goals as goal

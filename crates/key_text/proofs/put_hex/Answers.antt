@@ -1,7 +1,6 @@
 use Prim.Native.Nat.{◌+◌, ◌*◌}
 use mathlib.Core.Path.{refl, sym, ◌∙◌}
 use native.Mathlib.Omega.{arith}
-use Rattle.lent_text.specs.Text.{stored}
 use Rattle.key_text.proofs.Laws.{length_hex, hex_start, hex_turn, hex_done}
 use borrow.Author.Tests.{not-true}
 use Rattle.lent_text.proofs.Laws.{stored_never}

@@ -1,5 +1,4 @@
 use mathlib.Core.Path.{◌∙◌}
-use Prim.Native.Nat.{◌-◌}
 use Rattle.krl_file.proofs.Written.{writing_start, writing_more, writing_done}
 use Rattle.krl_file.proofs.write_records.Goals as goal
 

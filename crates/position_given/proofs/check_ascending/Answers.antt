@@ -1,4 +1,3 @@
-use Prim.Native.Nat.{◌-◌}
 use mathlib.Core.Path.{sym, ◌∙◌}
 use native.Mathlib.Omega.{arith}
 use Rattle.position_given.proofs.Accepted.{falling_end, falling_here, falling_next, ascending_none, ascending_start}

@@ -8,9 +8,9 @@ returns-in-Pair c = rw (← c.item_at.ensures, ← c.item_at-2.ensures, ← c.in
       number = refl;
       shared = c.maybe_numbers.ensures;
       ours_before = c.maybe_numbers-in-Pair.ensures;
-      ours_after_lem = c.maybe_numbers-in-Pair-2.ensures;
+      ours_after = c.maybe_numbers-in-Pair-2.ensures;
       theirs_before = c.maybe_numbers-in-Pair-3.ensures;
-      theirs_after_lem = c.maybe_numbers-in-Pair-4.ensures;
+      theirs_after = c.maybe_numbers-in-Pair-4.ensures;
     })
 
 pub returns-in-Refused : goal.returns-in-Refused
@@ -19,7 +19,7 @@ returns-in-Refused c = rw (← c.item_at.ensures, ← c.item_at-2.ensures, ← c
       number = c.refusal_number.ensures;
       shared = refl;
       ours_before = refl;
-      ours_after_lem = refl;
+      ours_after = refl;
       theirs_before = refl;
-      theirs_after_lem = refl;
+      theirs_after = refl;
     })

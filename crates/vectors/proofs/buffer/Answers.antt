@@ -3,11 +3,7 @@
 use Prim.Native.Nat.{ℕ}
 use mathlib.Core.Path.{sym}
 use lib.ListN.{length-replicate}
-use Rattle.vectors.proofs.buffer.Statement.{statement}
-use Rattle.vectors.proofs.buffer.Tie as tie
+use Rattle.vectors.proofs.buffer.Goals as goal
 
-returns : tie.Need-returns
+pub returns : goal.returns
 returns c = sym (length-replicate {A = ℕ} 393216 0)
-
-pub buffer-spec : {M : Type 1} → statement M
-buffer-spec = tie.close (tie.spec returns)
