@@ -7,6 +7,8 @@
 // Definitions: specs/Answers.antt (numbers, what is returned and left), specs/Calls.antt (kinds as numbers), specs/Intersect.antt (modules 3
 // and 4), specs/Positions.antt (module 6, section 4 of document 02), specs/Plans.antt, specs/Cards.antt, specs/Collecting.antt and
 // specs/Sheets.antt (its sections 9, 8, 6 and 1). Laws: proofs/Laws.antt.
+#![tactic(auto)]
+
 pub mod cards;
 pub mod collecting;
 pub mod insertion;

@@ -6,6 +6,8 @@
 //
 // The list is checked in linear passes. Then the few items to ask are found by halving, what merges among them, and the tail from the first
 // changed item on is rewritten, each item written once.
+#![tactic(auto)]
+
 ghost use Rattle.std.specs.Prelude.{◌≡◌, ◌-◌, ◌/◌, ◌≤◌, length};
 ghost use Rattle.query_item.specs.Items.{item_size, items_from};
 ghost use Rattle.item_check.specs.Checks.{accepted};

@@ -2,6 +2,8 @@
 // Definitions: specs/Listing.antt. Laws: proofs/Laws.antt; among them that no line of checked items is longer than MAX_LINE.
 //
 // `listing_line` is inner: what has no room is left out, and whoever calls it lends as many bytes as the longest line has.
+#![tactic(auto)]
+
 ghost use Rattle.std.specs.Prelude.{[], ◌≤◌, length, get_or};
 ghost use Rattle.query_item.specs.Items.{items_from};
 ghost use Rattle.krl_line.specs.Lines.{PutFront};

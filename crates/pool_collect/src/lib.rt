@@ -3,6 +3,8 @@
 //
 // A first pass finds the distinct keys, notes where each key goes, and writes nothing lent. If they fit, a second one writes the fresh pool and
 // the noted offsets.
+#![tactic(auto)]
+
 ghost use Rattle.std.specs.Prelude.{◌≡◌};
 ghost use Rattle.item_check.specs.Checks.{accepted};
 ghost use Rattle.pool_collect.specs.Collected.{collect_verdict, Collects, collected_of, keys_kept, together};

@@ -3,6 +3,8 @@
 // never refused.
 //
 // The text is walked twice, first to count its bytes and then, where there is room, to write them: `write` says which.
+#![tactic(auto)]
+
 ghost use Rattle.std.specs.Prelude.{◌≡◌, ◌∷◌, ◌≤◌, length};
 ghost use Rattle.position_describe.specs.Text.{first_part, numbers_of, text_of, most_text, described_of, describe_answer, described_in, refused_with};
 ghost use Rattle.position_report.specs.Reports.{most_reported};

@@ -1,5 +1,5 @@
 -- Position keys. Definitions only. Assumes nothing.
-use Rattle.std.specs.Prelude.{ℕ, zero, suc, ◌+◌, ◌*◌, ◌/◌, ◌%◌, ◌^◌, List, [], ◌∷◌, cond, length, eqb}
+use Rattle.std.specs.Prelude.{ℕ, zero, suc, ◌/◌, ◌%◌, ◌^◌, List, [], ◌∷◌, cond, length, eqb}
 use Rattle.key_order.specs.Words.{be}
 use Rattle.item_check.specs.Checks.{Answer, answered, refused}
 use Rattle.position_key.specs.declared.PositionKey.{PositionKey}

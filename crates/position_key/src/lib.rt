@@ -1,5 +1,7 @@
 // Module 6 of document 01: a position key read.
 // Definitions: specs/Keys.antt. Laws: proofs/Keys.antt (big-endian numbers), proofs/Laws.antt.
+#![tactic(auto)]
+
 ghost use Rattle.std.specs.Prelude.{◌≡◌};
 ghost use Rattle.position_key.specs.Keys.{position_of, position_answer};
 

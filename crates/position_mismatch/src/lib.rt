@@ -4,6 +4,8 @@
 // promise). Laws: proofs/Laws.antt; among them covered = present + missing, and proved = present + extra.
 //
 // A function marked "inner" is public only because other crates need it. It checks nothing: its definition covers every input.
+#![tactic(auto)]
+
 pub mod compare;
 mod gaps;
 pub mod spans;

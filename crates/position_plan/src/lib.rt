@@ -3,6 +3,8 @@
 // promise). Laws: proofs/Laws.antt: our plans are accepted, no accepted plan has fewer windows, and how much room is always enough.
 //
 // No step is taken for each row: the search goes by runs of missing rows, the passes by windows.
+#![tactic(auto)]
+
 pub mod judge;
 mod runs;
 pub mod windows;

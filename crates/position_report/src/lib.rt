@@ -4,6 +4,8 @@
 // that a report which grows by a run is that of the longer list (`run_report`).
 //
 // A function marked "inner" is public only because other crates need it. It checks nothing: its definition covers every input.
+#![tactic(auto)]
+
 ghost use Rattle.std.specs.Prelude.{◌≡◌, [], ◌+◌, ◌-◌, ◌≤◌, min};
 ghost use Rattle.std.proofs.lemmas.List.Edits.{sets};
 ghost use Rattle.position_given.specs.Positions.{count_up};

@@ -1,6 +1,8 @@
 // Module 6 of document 01: `missing_from_spans`, on a lent slice of spans. It is thin: the work is the core of `position_mismatch`, which
 // takes one span after the other.
 // Definitions: specs/Spans.antt (a span as an interval); the answer is `position_mismatch`'s `spans_answer`, and its laws stand there.
+#![tactic(auto)]
+
 ghost use Rattle.std.specs.Prelude.{◌≡◌, ◌<◌, length, get_or};
 ghost use Rattle.position_mismatch.specs.Reports.{GivesCompared, spans_answer};
 ghost use Rattle.position_mismatch.specs.Inner.{step_of};

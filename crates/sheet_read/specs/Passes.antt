@@ -1,6 +1,6 @@
 -- What the passes over a sheet go by: one counts, one writes. No promise of a public call cites this. Definitions only. It serves 02 §1.8, §1.11,
 -- §1.13. Assumes nothing.
-use Rattle.std.specs.Prelude.{ℕ, ◌+◌, ◌*◌, ◌-◌, ◌/◌, ◌≤◌, ◌<◌, ◌≡◌, Bool, true, false, cond, ◌||◌, List, [], ◌∷◌, length, get_or, ltb}
+use Rattle.std.specs.Prelude.{ℕ, ◌+◌, ◌*◌, ◌/◌, ◌≤◌, ◌<◌, ◌≡◌, Bool, true, false, cond, ◌||◌, List, [], ◌∷◌, length, get_or, ltb}
 use Rattle.item_check.specs.Checks.{refused, Verdict, accepted, and_then, most_pool, most_key, pool_verdict}
 use Rattle.sheet_read.specs.declared.row.RowAt.{RowAt}
 use Rattle.sheet_row.specs.Lanes.{Lane, lane_of, is_hex, hex_bytes, Sheet, lanes, bad_at, sheet_of}

@@ -3,6 +3,8 @@
 //
 // A first pass reads row by row, up to the first bad one, counts, and writes nothing lent. If nothing is refused, a second one writes keys and
 // items; it does not ask again whether a row is good.
+#![tactic(auto)]
+
 ghost use Rattle.std.specs.Prelude.{◌≡◌, true, false, cond, ◌++◌, ◌+◌, ◌*◌, ◌-◌, ◌/◌, ◌<◌, length};
 ghost use Rattle.item_check.specs.Checks.{verdict_of};
 ghost use Rattle.lent_text.specs.Text.{stored};

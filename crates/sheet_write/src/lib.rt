@@ -3,6 +3,8 @@
 // is written in its plain form.
 //
 // The text is walked twice, first to count its bytes and then, where it has room, to write them: `write` says which.
+#![tactic(auto)]
+
 ghost use Rattle.std.specs.Prelude.{◌≡◌, ◌∷◌, ◌+◌, ◌/◌, ◌≤◌, ◌<◌, length};
 ghost use Rattle.query_item.specs.Items.{bytes_of, item_size, items_from};
 ghost use Rattle.item_check.specs.Checks.{verdict_of, first_bad, items_of, most_items};

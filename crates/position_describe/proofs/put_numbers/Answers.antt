@@ -1,9 +1,7 @@
-use Prim.Native.Nat.{◌-◌}
 use mathlib.Core.Path.{◌≡◌, refl, sym, ◌∙◌}
 use native.Mathlib.Omega.{arith}
 use lib.ListN.{length}
 use Rattle.position_report.specs.Reports.{most_reported}
-use Rattle.lent_text.specs.Text.{stored}
 use Rattle.lent_text.proofs.Laws.{stored_none}
 use Rattle.position_describe.proofs.Laws.{numbers_none, left_turn, left_whole}
 use borrow.Author.Rules.{rules}

@@ -1,5 +1,4 @@
 use native.Mathlib.Omega.{arith}
-use Rattle.position_given.proofs.Widths.{Words}
 use Rattle.position_spans.proofs.Stepped.{stepped_start, stepped_more, stepped_end}
 use Rattle.position_spans.proofs.missing_from_spans.Goals as goal
 

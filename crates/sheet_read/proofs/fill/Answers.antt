@@ -1,4 +1,3 @@
-use Prim.Native.Nat.{◌-◌}
 use native.Mathlib.Omega.{arith}
 use Rattle.sheet_read.proofs.Filling.{filling_start, filling_end, filling_good, filling_puts, filling_more}
 use Rattle.sheet_read.proofs.fill.Goals as goal

@@ -1,9 +1,6 @@
-use Prim.Native.Nat.{◌+◌, ◌-◌}
+use Prim.Native.Nat.{◌+◌}
 use mathlib.Core.Path.{refl, sym, ◌∙◌}
-use mathlib.Core.Bool.{true}
 use native.Mathlib.Omega.{arith}
-use lib.ListN.{length}
-use Rattle.sheet_row.specs.Lanes.{hex_bytes}
 use Rattle.sheet_read.proofs.Digits.{hex_bytes_start, hex_bytes_turn, hex_bytes_done}
 use Rattle.sheet_read.proofs.Measures.{length_hex_bytes}
 use Rattle.sheet_read.proofs.put_bytes.Goals as goal

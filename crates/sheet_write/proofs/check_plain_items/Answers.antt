@@ -1,9 +1,7 @@
-use Prim.Native.Nat.{◌-◌}
 use mathlib.Core.Path.{sym, ◌∙◌}
 use native.Mathlib.Nat.{sub-zero}
 use borrow.Author.Rules.{rules}
 use Rattle.item_check.proofs.Laws.{bad_end, bad_here, bad_next}
-use Rattle.sheet_write.specs.Writing.{plain_fault}
 use Rattle.sheet_write.proofs.check_plain_items.Goals as goal
 
 pub loop-i-init : goal.loop-i-init

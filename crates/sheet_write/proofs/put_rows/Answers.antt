@@ -1,4 +1,3 @@
-use Prim.Native.Nat.{◌-◌}
 use Rattle.sheet_write.proofs.Rows.{writes_start, writes_end, writes_more}
 use Rattle.sheet_write.proofs.put_rows.Goals as goal
 

@@ -12,6 +12,6 @@ returns-then-out-n c = let text = items_text c.args.pool.now (items_of c.args.wo
 pub returns : goal.returns
 returns c = let text = items_text c.args.pool.now (items_of c.args.words.now) in
     let all =
-        room_written text c.args.out.now c.put_rows-n.new.out c.put_rows-n.result c.put_rows-n.ensures.0 c.put_rows-n.ensures.1
-            c.put_rows.new.out c.put_rows.result c.if-out-n.false c.put_rows.ensures.0 c.put_rows.ensures.1 in
+    room_written text c.args.out.now c.put_rows-n.new.out c.put_rows-n.result c.put_rows-n.ensures.0 c.put_rows-n.ensures.1
+    c.put_rows.new.out c.put_rows.result c.if-out-n.false c.put_rows.ensures.0 c.put_rows.ensures.1 in
     record { result_value = all.0; out_after = all.1 }

@@ -1,4 +1,4 @@
-use Prim.Native.Nat.{◌-◌, ◌<◌}
+use Prim.Native.Nat.{◌<◌}
 use native.Mathlib.Omega.{arith}
 use Rattle.insert.proofs.Moves.{moving_start, moving_fate, moving_skip, moving_more, moving_end, moving_shift, rest_room, more_told}
 use Rattle.insert.proofs.tail.move_items.Goals as goal

@@ -1,7 +1,7 @@
 use Prim.Native.Nat.{◌*◌}
 use mathlib.Core.Path.{◌≡◌, sym, ap, ◌∙◌}
 use native.Mathlib.Omega.{arith}
-use lib.ListN.{length, length-set}
+use lib.ListN.{length-set}
 use Rattle.query_item.specs.Items.{item_size}
 use Rattle.insert.specs.Passes.{raised}
 use Rattle.insert.proofs.Raised.{raise_more, raise_end}

@@ -1,8 +1,6 @@
-use Prim.Native.Nat.{◌-◌}
 use mathlib.Core.Path.{sym, ◌∙◌}
 use native.Mathlib.Nat.{sub-zero}
 use borrow.Author.Rules.{rules}
-use Rattle.item_check.specs.Checks.{item_fault}
 use Rattle.item_check.proofs.Laws.{bad_end, bad_here, bad_next}
 use Rattle.pool_collect.proofs.check.check_faults.Goals as goal
 

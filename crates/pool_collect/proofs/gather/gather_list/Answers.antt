@@ -1,4 +1,3 @@
-use Prim.Native.Nat.{◌-◌}
 use mathlib.Core.Path.{refl}
 use Rattle.pool_collect.proofs.Passes.{gathering_start, gathering_ready, gathering_more, gathering_end}
 use borrow.Author.Rules.{rules}

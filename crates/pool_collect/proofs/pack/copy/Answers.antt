@@ -1,4 +1,3 @@
-use Prim.Native.Nat.{◌-◌}
 use Rattle.pool_collect.proofs.Packs.{copying_start, copying_more, copying_end}
 use Rattle.pool_collect.proofs.pack.copy.Goals as goal
 

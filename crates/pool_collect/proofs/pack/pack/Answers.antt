@@ -1,4 +1,3 @@
-use Prim.Native.Nat.{◌-◌}
 use Rattle.pool_collect.proofs.Packs.{packing_start, packing_room, packing_more, packing_end}
 use borrow.Author.Rules.{rules}
 use Rattle.pool_collect.proofs.pack.pack.Goals as goal

@@ -1,4 +1,3 @@
-use Prim.Native.Nat.{◌-◌}
 use Rattle.pool_collect.proofs.Rewritten.{rewriting_start, rewriting_more, rewriting_end}
 use borrow.Author.Rules.{rules}
 use Rattle.pool_collect.proofs.rewrite.rewrite_list.Goals as goal

@@ -1,4 +1,3 @@
-use Prim.Native.Nat.{◌-◌}
 use native.Mathlib.Omega.{arith}
 use Rattle.position_report.specs.Reports.{report_of}
 use Rattle.position_mismatch.proofs.Turns.{sorted_start, sorted_held, sorted_extra, sorted_end}

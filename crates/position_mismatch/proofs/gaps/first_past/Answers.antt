@@ -1,4 +1,4 @@
-use Prim.Native.Nat.{◌-◌, ◌≤◌}
+use Prim.Native.Nat.{◌≤◌}
 use native.Mathlib.Omega.{arith}
 use Rattle.pairs_sort.specs.Pairs.{finish}
 use Rattle.position_given.proofs.Indexes.{index_after}

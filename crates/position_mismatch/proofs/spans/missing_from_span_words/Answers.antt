@@ -1,4 +1,3 @@
-use Prim.Native.Nat.{◌-◌}
 use native.Mathlib.Omega.{arith}
 use Rattle.position_given.proofs.Widths.{Words}
 use Rattle.position_mismatch.proofs.Steps.{steps_start, steps_more, steps_end}

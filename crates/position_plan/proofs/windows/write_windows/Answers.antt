@@ -1,5 +1,5 @@
 use native.Mathlib.Omega.{arith}
-use lib.ListN.{length, length-set}
+use lib.ListN.{length-set}
 use Rattle.position_plan.proofs.Opening.{search_start}
 use Rattle.position_plan.proofs.Passes.{passed_opens, fewer, written_start, written_room, written_more, written_end}
 use Rattle.position_plan.proofs.windows.write_windows.Goals as goal

@@ -1,8 +1,6 @@
-use Prim.Native.Nat.{◌-◌}
 use mathlib.Core.Path.{sym, ◌∙◌}
 use native.Mathlib.Nat.{sub-zero}
 use Rattle.item_check.proofs.Laws.{bad_end, bad_here, bad_next}
-use Rattle.position_query.specs.Covered.{position_fault}
 use borrow.Author.Rules.{rules}
 use Rattle.position_query.proofs.query.check_items.Goals as goal
 

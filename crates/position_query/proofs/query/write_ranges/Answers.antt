@@ -1,4 +1,3 @@
-use Prim.Native.Nat.{◌-◌}
 use Rattle.position_query.proofs.Builds.{counted_start, counted_some, counted_none, counted_all, counted_written}
 use borrow.Author.Rules.{rules}
 use Rattle.position_query.proofs.query.write_ranges.Goals as goal

@@ -1,4 +1,3 @@
-use Prim.Native.Nat.{◌-◌}
 use native.Mathlib.Omega.{arith}
 use Rattle.position_stored.proofs.Turns.{some_at, going_start, going_more, going_fits}
 use Rattle.position_stored.proofs.change.gone_whole.Goals as goal

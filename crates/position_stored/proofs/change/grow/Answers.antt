@@ -1,4 +1,3 @@
-use Prim.Native.Nat.{◌-◌}
 use native.Mathlib.Omega.{arith}
 use Rattle.position_stored.proofs.Turns.{some_at, growing_start, growing_more, growing_stop, growing_end, growing_fits}
 use Rattle.position_stored.proofs.change.grow.Goals as goal

@@ -1,6 +1,4 @@
-use Prim.Native.Nat.{◌-◌}
 use native.Mathlib.Omega.{arith}
-use Rattle.sheet_row.specs.Fields.{is_text}
 use Rattle.sheet_read.proofs.Places.{run_start_lem, run_more, run_stop, run_end}
 use Rattle.sheet_read.proofs.row.text_end.Goals as goal
 
