@@ -14,7 +14,7 @@ use Rattle.pairs_sort.specs.Pairs.{start, finish, pairs_from, pairs}
 use Rattle.pairs_sort.proofs.Laws.{pairs_take, pairs_append, pairs_more}
 use Rattle.position_given.specs.Given.{intervals_of, intervals_verdict}
 use Rattle.position_given.specs.Inner.{Sound}
-use Rattle.position_given.proofs.Accepted.{sound, sound_accepts}
+use Rattle.position_given.proofs.Accepted.{sound_accepts}
 use Rattle.position_given.proofs.Apart.{apart_front, apart_back, apart_above}
 
 -- ---- no pair, and one
@@ -37,8 +37,11 @@ shifted ws cut even (suc k) i j e =
     let q : cut + (2 * i + 1) ≡ 2 * j + 1 = omega arith in
     rw (get_or-drop cut ws (2 * i) 0, get_or-drop cut ws (2 * i + 1) 0, p, q, shifted ws cut even k (suc i) (suc j) (omega arith))
 
--- both parts are shorter
-module _ (ws : List ℕ) (cut : ℕ) (l : cut < length ws) where
+module _ (ws : List ℕ) (cut : ℕ) (S : Sound ws) (even : cut % 2 ≡ 0) (l : cut < length ws) where
+  -- the pairs of the first half, and of the second
+  fronts : intervals_of (take cut ws) ≡ pairs ws (cut / 2)
+  fronts = rw (length-take-le cut ws (omega arith)) (pairs_take ws cut (cut / 2) (omega arith))
+
   -- the tail as the borrow checker says it
   tail_is : take (length ws - cut) (drop cut ws) ≡ drop cut ws
   tail_is = take_all (length ws - cut) (drop cut ws) (rw (length-drop cut ws) (omega arith))
@@ -46,24 +49,9 @@ module _ (ws : List ℕ) (cut : ℕ) (l : cut < length ws) where
   tail_length : length (take (length ws - cut) (drop cut ws)) ≡ length ws - cut
   tail_length = rw tail_is (length-drop cut ws)
 
-  pub less_front : length (take cut ws) < length ws
-  less_front = rw (length-take-le cut ws (omega arith)) l
-
-  pub less_back : 0 < cut → length (take (length ws - cut) (drop cut ws)) < length ws
-  less_back h = rw tail_length (omega arith)
-
--- of accepted words both parts are accepted, and the one that can hold a position holds it exactly if all do
-module _ (ws : List ℕ) (cut : ℕ) (even : cut % 2 ≡ 0) (l : cut < length ws) (ok : intervals_verdict ws ≡ accepted) where
-  S : Sound ws
-  S = sound ws ok
-
-  -- the pairs of the first half, and of the second
-  fronts : intervals_of (take cut ws) ≡ pairs ws (cut / 2)
-  fronts = rw (length-take-le cut ws (omega arith)) (pairs_take ws cut (cut / 2) (omega arith))
-
   backs : intervals_of (take (length ws - cut) (drop cut ws)) ≡ pairs_from ws (cut / 2) (length ws / 2 - cut / 2)
   backs =
-      rw (tail_is ws cut l)
+      rw tail_is
       (rw (length-drop cut ws)
       (let k : (length ws - cut) / 2 ≡ length ws / 2 - cut / 2 = omega (arith, S.even) in
       rw k (shifted ws cut even (length ws / 2 - cut / 2) 0 (cut / 2) (omega arith))))
@@ -84,15 +72,24 @@ module _ (ws : List ℕ) (cut : ℕ) (even : cut % 2 ≡ 0) (l : cut < length ws
   at_cut : start ws (cut / 2) ≡ get_or ws cut 0
   at_cut = let q : 2 * (cut / 2) ≡ cut = omega arith in rw q
 
+  pub sound_front : Sound (take cut ws)
+  sound_front = record { even = rw (length-take-le cut ws (omega arith)) even; canonical = rw fronts (apart_front 0 (pairs ws (cut / 2)) _ apart) }
+
+  pub sound_back : Sound (take (length ws - cut) (drop cut ws))
+  sound_back = record { even = rw tail_length (omega (arith, S.even)); canonical = rw backs (apart_back 0 (pairs ws (cut / 2)) _ apart) }
+
+  -- so both parts are accepted
   pub front_accepted : intervals_verdict (take cut ws) ≡ accepted
-  front_accepted =
-      sound_accepts (take cut ws)
-      (record { even = rw (length-take-le cut ws (omega arith)) even; canonical = rw fronts (apart_front 0 (pairs ws (cut / 2)) _ apart) })
+  front_accepted = sound_accepts (take cut ws) sound_front
 
   pub back_accepted : intervals_verdict (take (length ws - cut) (drop cut ws)) ≡ accepted
-  back_accepted =
-      sound_accepts (take (length ws - cut) (drop cut ws))
-      (record { even = rw (tail_length ws cut l) (omega (arith, S.even)); canonical = rw backs (apart_back 0 (pairs ws (cut / 2)) _ apart) })
+  back_accepted = sound_accepts (take (length ws - cut) (drop cut ws)) sound_back
+
+  pub less_front : length (take cut ws) < length ws
+  less_front = rw (length-take-le cut ws (omega arith)) l
+
+  pub less_back : 0 < cut → length (take (length ws - cut) (drop cut ws)) < length ws
+  less_back h = rw tail_length (omega arith)
 
   pub low : (p : ℕ) → p < get_or ws cut 0 → holds (intervals_of (take cut ws)) p ≡ holds (intervals_of ws) p
   low p h =

@@ -2,6 +2,7 @@ use Prim.Native.Nat.{◌*◌, ◌/◌, ◌%◌, ◌<◌}
 use mathlib.Core.Path.{◌≡◌, ◌∙◌}
 use lib.ListN.{length}
 use native.Mathlib.Omega.{arith}
+use Rattle.position_given.proofs.Accepted.{sound}
 use Rattle.position_intervals.proofs.Halves.{none_held, one_held, front_accepted, back_accepted, low, high}
 use Rattle.position_intervals.proofs.ask.+contains_accepted.Goals as goal
 
@@ -17,7 +18,7 @@ returns-then-p-intervals t c =
     let cut = 2 * (length xs / 4) in
     let even : cut % 2 ≡ 0 = omega arith in
     let l : cut < length xs = omega arith in
-    λ ok. c.contains_accepted.ensures (front_accepted xs cut even l ok) ∙ low xs cut even l ok c.args.position.0 c.if-p-intervals.true
+    λ ok. c.contains_accepted.ensures (front_accepted xs cut (sound xs ok) even l) ∙ low xs cut (sound xs ok) even l c.args.position.0 c.if-p-intervals.true
 
 pub returns : goal.returns
 returns t c =
@@ -25,4 +26,4 @@ returns t c =
     let cut = 2 * (length xs / 4) in
     let even : cut % 2 ≡ 0 = omega arith in
     let l : cut < length xs = omega arith in
-    λ ok. c.contains_accepted-2.ensures (back_accepted xs cut even l ok) ∙ high xs cut even l ok c.args.position.0 c.if-p-intervals.false
+    λ ok. c.contains_accepted-2.ensures (back_accepted xs cut (sound xs ok) even l) ∙ high xs cut (sound xs ok) even l c.args.position.0 c.if-p-intervals.false
