@@ -24,7 +24,7 @@ shared_sets pool ours theirs = shared_of (meet_sets pool) (sets_of ours) (sets_o
 abbrev pub cut_sets : List ℕ → RangeSet → RangeSet → List RangeSet
 cut_sets pool a b = left_over pool a b ++ right_over pool a b
 
--- 01 m4.2, m4.3: ours_only: each of our items with all of theirs removed, pieces ascending; theirs_only: with sides exchanged.
+-- 01 m4.2, m4.3: ours-only: each of our items with all of theirs removed, pieces ascending; theirs-only: with sides exchanged.
 -- Reading A26: an item that is cut several times is cut as boundaries, and converted once at the end
 abbrev pub only_sets : List ℕ → List ℕ → List ℕ → List RangeSet
 only_sets pool ours theirs = without_of (cut_sets pool) (sets_of ours) (sets_of theirs)
@@ -39,7 +39,7 @@ convert_all pool (s ∷ S) = as_items (to_query_item pool s) ++ convert_all pool
 unfoldable pub keyed_items : List ℕ → List RangeSet → List ItemWords
 keyed_items pool S = convert_all pool (keyed pool S)
 
--- 01 m4.1, m4.2, m4.3: the result lists: shared, and ours_only or, with sides exchanged, theirs_only
+-- 01 m4.1, m4.2, m4.3: the result lists: shared, and ours-only or, with sides exchanged, theirs-only
 unfoldable pub shared_items : List ℕ → List ℕ → List ℕ → List ItemWords
 shared_items pool ours theirs = keyed_items pool (shared_sets pool ours theirs)
 

@@ -18,7 +18,7 @@ unfoldable pub cuts_of : {X : Type 0} → (X → X → List X) → List X → X 
 cuts_of cut [] b = []
 cuts_of cut (a ∷ A) b = cut a b ++ cuts_of cut A b
 
--- 01 m4.2, m4.3: ours_only: each of ours with all of theirs removed, pieces ascending; theirs_only is this with sides exchanged
+-- 01 m4.2, m4.3: ours-only: each of ours with all of theirs removed, pieces ascending; theirs-only is this with sides exchanged
 unfoldable pub without_of : {X : Type 0} → (X → X → List X) → List X → List X → List X
 without_of cut A [] = A
 without_of cut A (b ∷ B) = without_of cut (cuts_of cut A b) B

@@ -19,13 +19,19 @@ use Rattle.position_given.proofs.Apart.{apart_front, apart_back, apart_above}
 
 -- ---- no pair, and one
 
-pub none_held : (ws : List ℕ) (p : ℕ) → length ws < 2 → false ≡ holds (intervals_of ws) p
+pub no_pair_held : (ws : List ℕ) (p : ℕ) → length ws / 2 ≡ 0 → false ≡ holds (intervals_of ws) p
 unfolding holds pairs_from
-none_held ws p h = let q : length ws / 2 ≡ 0 = omega arith in rw q
+no_pair_held ws p q = rw q
 
-pub one_held : (ws : List ℕ) (p : ℕ) → 2 ≤ length ws → length ws < 4 → leb (start ws 0) p && ltb p (finish ws 0) ≡ holds (intervals_of ws) p
+pub one_pair_held : (ws : List ℕ) (p : ℕ) → length ws / 2 ≡ 1 → leb (start ws 0) p && ltb p (finish ws 0) ≡ holds (intervals_of ws) p
 unfolding holds pairs_from inside
-one_held ws p h l = let q : length ws / 2 ≡ 1 = omega arith in rw (q, or-false)
+one_pair_held ws p q = rw (q, or-false)
+
+pub none_held : (ws : List ℕ) (p : ℕ) → length ws ≡ 0 → false ≡ holds (intervals_of ws) p
+none_held ws p h = no_pair_held ws p (omega arith)
+
+pub one_held : (ws : List ℕ) (p : ℕ) → length ws ≡ 2 → leb (start ws 0) p && ltb p (finish ws 0) ≡ holds (intervals_of ws) p
+one_held ws p h = one_pair_held ws p (omega arith)
 
 -- ---- a part of the words
 

@@ -21,32 +21,42 @@ pub fn contains(intervals: &[u64], position: LogPosition) -> YesOrNo
     }
 }
 
-// The same of canonical intervals.
+// The same of canonical intervals: asks one half of them, the one that starts at or below the position where there is a choice.
 fn in_one_of(intervals: &[u64], position: LogPosition) -> bool
     requires { Sound intervals.now }
     ensures { result ≡ holds (intervals_of intervals.now) position.0 }
 {
-    contains_accepted(intervals, position)
-}
-
-// inner: the same, unchecked: it ends on any words, and of intervals that are accepted it answers rightly. It asks the same of one half of the
-// pairs, the one that starts at or below the position where there is a choice.
-pub fn contains_accepted(intervals: &[u64], position: LogPosition) -> bool
-    ensures { intervals_verdict intervals.now ≡ accepted → result ≡ holds (intervals_of intervals.now) position.0 }
-{
     let len = intervals.len();
-    if len < 2 {
+    if len == 0 {
         return false;
     }
     let p = position.0;
-    if len < 4 {
+    if len == 2 {
         return (intervals[0] <= p) & (p < intervals[1]);
     }
     let cut = 2 * (len / 4);
     if p < intervals[cut] {
-        return contains_accepted(&intervals[..cut], position);
+        return in_one_of(&intervals[..cut], position);
     }
-    contains_accepted(&intervals[cut..], position)
+    in_one_of(&intervals[cut..], position)
+}
+
+// inner: the same, unchecked: it ends on any words, and of intervals that are accepted it answers rightly, by halves too.
+pub fn contains_accepted(intervals: &[u64], position: LogPosition) -> bool
+    ensures { intervals_verdict intervals.now ≡ accepted → result ≡ holds (intervals_of intervals.now) position.0 }
+{
+    let pairs = intervals.len() / 2;
+    if pairs == 0 {
+        return false;
+    }
+    if pairs == 1 {
+        return (intervals[0] <= position.0) & (position.0 < intervals[1]);
+    }
+    let half = 2 * (pairs / 2);
+    if position.0 < intervals[half] {
+        return contains_accepted(&intervals[..half], position);
+    }
+    contains_accepted(&intervals[half..], position)
 }
 
 // How many positions are covered (01 m6.9).

@@ -3,15 +3,11 @@ use mathlib.Core.Path.{◌≡◌}
 use native.Mathlib.Omega.{arith}
 use lib.ListN.{length}
 use borrow.Author.Tests.{eq-eqb}
-use Rattle.item_check.proofs.Tests.{tests}
 use Rattle.key_order.proofs.Words.{be_eight}
 use Rattle.position_key.proofs.be_u64.Goals as goal
 
-pub returns-then-key-ne8 : goal.returns-then-key-ne8
-returns-then-key-ne8 c = search tests
-
 pub returns : goal.returns
-returns c = let eight : length c.args.key.now ≡ 8 = omega (arith, c.if-key-ne8.false) in
+returns c = let eight : length c.args.key.now ≡ 8 = omega arith in
     rw (
       eq-eqb (length c.args.key.now) 8 eight,
       ← be_eight c.args.key.now eight,
