@@ -19,6 +19,7 @@ INCLUDEDIR ?= $(PREFIX)/include
 STRICT := -Wall -Wextra -Wpedantic -Werror
 # cargo by itself: it takes no part in make's own share of the cores.
 CARGO := env -u MAKEFLAGS -u MFLAGS cargo
+LANES = $(CARGO) run --quiet --offline --manifest-path rust/Cargo.toml --example lanes --
 FERNSPONGE = $(CARGO) run --quiet --offline --manifest-path cli/Cargo.toml --
 COMPARE = GROVEDB_SRC="$(GROVEDB_SRC)" $(CARGO) run --quiet --release --offline --manifest-path compare/Cargo.toml --
 
@@ -174,7 +175,7 @@ compare-short:
 	fi
 
 # The library linked, where a C compiler and cargo are at hand: the header, C's examples and what they write, the header in C++, what is installed;
-# the Rust crate's own tests and its doc examples; the command's tests, and what it writes of the samples.
+# the Rust crate's own tests, its doc examples and its example program; the command's tests, and what it writes of the samples.
 link-short:
 	@if command -v cc >/dev/null; then \
 	    $(MAKE) --no-print-directory link-c; \
@@ -226,6 +227,12 @@ link-installed:
 
 link-rust: lib
 	$(CARGO) test --quiet --offline --manifest-path rust/Cargo.toml
+	$(LANES) samples/ours.csv samples/theirs.csv | diff - crates/krl/stdout
+	$(LANES) samples/ours.csv samples/theirs.csv target/shared.csv target/only_ours.csv target/only_theirs.csv
+	printf 'Key,03,\r\n' | diff - target/shared.csv
+	printf 'Range,01,03\r\nRangeAfterTo,03,05\r\n' | diff - target/only_ours.csv
+	printf '' | diff - target/only_theirs.csv
+	@rm target/shared.csv target/only_ours.csv target/only_theirs.csv
 	$(CARGO) test --quiet --offline --manifest-path cli/Cargo.toml
 	$(FERNSPONGE) compare samples/ours.csv samples/theirs.csv | tr -d '\r' | tr , ' ' | sed 's/ *$$//' | diff - crates/krl/stdout
 	$(FERNSPONGE) compare samples/document.krl | tr -d '\r' | tr , ' ' | sed 's/ *$$//' | diff - crates/krl/stdout

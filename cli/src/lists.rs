@@ -112,7 +112,7 @@ fn moved(item: Item, from: &[u8], to: &mut Pool) -> Result<Item, Refusal> {
     let [code, wrapper, start, start_length, end, end_length] = item.words();
     let mut key = |offset, length| match length {
         0 => Ok(KeyAt::default()),
-        _ => to.add(KeyAt { offset, length }.bytes(from)),
+        _ => to.add_once(KeyAt { offset, length }.bytes(from)),
     };
     let (start, end) = (key(start, start_length)?, key(end, end_length)?);
     Ok(Item::from_words([

@@ -30,7 +30,7 @@ impl Failure {
     /// What a file says is refused by a call; or the system has no memory for that call, which is no fault of the file.
     pub fn of_call(place: impl Display, why: impl Display, refusal: &Refusal) -> Self {
         match refusal.lacks_memory() {
-            true => Self::unusable(format!("{place}: {refusal}")),
+            true => Self::unusable(format!("{place}: {refusal:#}")),
             false => Self::numbered(place, why, refusal.number),
         }
     }

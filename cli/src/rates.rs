@@ -172,7 +172,7 @@ fn read_keys(input: &Input, pool: &mut Pool) -> Result<Vec<KeyAt>, Failure> {
     let keys = lines::parse(input, key)?;
     let mut asked = vec![];
     for (key, at) in keys.iter().zip(0..) {
-        let added = pool.add(key).map_err(|refusal| {
+        let added = pool.add_once(key).map_err(|refusal| {
             let why = "the keys of card and invoice have more than 65,536 bytes together, equal ones counted once: the most that a pool has";
             Failure::numbered(lines::place(input, at), why, refusal.number)
         });

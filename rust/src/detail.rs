@@ -1,7 +1,7 @@
-//! What a refused call was given, as far as its refusal's text can name it.
+//! What a refused call was given, as far as its refusal's detailed text can name it.
 //!
 //! The library alone decides whether a call is refused, and with which number, side and index. What is found here is looked up in the input
-//! afterwards, and only names what stands there; where nothing that is looked for is found, the refusal keeps the general text of its number.
+//! afterwards, and only names what stands there; where nothing that is looked for is found, the refusal has a general text of its number.
 
 use crate::{
     item::{Item, KeyAt, KINDS},
@@ -421,7 +421,7 @@ impl fmt::Display for Fault {
 }
 
 impl Detail {
-    /// The sentence of a refusal that has this detail, without the number at its end.
+    /// The detailed text of a refusal that has this, without the number at its end.
     pub(crate) fn write(self, refusal: Refusal, f: &mut fmt::Formatter<'_>) -> fmt::Result {
         let (whose, index) = (refusal.whose(), refusal.index);
         match self {

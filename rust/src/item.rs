@@ -31,21 +31,18 @@ impl KeyAt {
 
 /// A pool that grows a key at a time. It is its bytes: `&pool` serves wherever a call takes a pool.
 ///
-/// A key that was added before is not added again, so that two lists of the same 2,000 keys take the room of one.
-///
 /// ```
 /// let mut pool = fernsponge::Pool::new();
 /// let key = pool.add(b"DE-FR/05")?;
-/// assert_eq!(key.bytes(&pool), b"DE-FR/05");
-/// assert_eq!(pool.add(b"DE-FR/05")?, key);
-/// assert_eq!(pool.len(), 8);
+/// assert_eq!(key.bytes(pool.bytes()), b"DE-FR/05");
 /// # Ok::<(), fernsponge::Refusal>(())
 /// ```
 #[derive(Clone, Default)]
 pub struct Pool {
     bytes: Vec<u8>,
-    /// Where a key stands, by its hash: the first one that has the hash. Bytes are only ever added behind those that there are, so that a place stays
-    /// right until the pool is collected. A key of a hash that is another's already is not found again, and takes room each time.
+    /// Where a key stands that [`add_once`](Self::add_once) finds again, by its hash: the first one that has the hash. Bytes are only ever added behind
+    /// those that there are, so that a place stays right until the pool is collected. A key of a hash that is another's already is not found again, and
+    /// takes room each time.
     places: HashMap<u64, KeyAt>,
 }
 
@@ -56,11 +53,7 @@ impl Pool {
         Self::default()
     }
 
-    /// The place of a key, which is added where the pool does not have it yet. Keys that [`Sheet::read_into`](crate::Sheet::read_into) has put there
-    /// are not looked for; those that a call of [`collect`](Self::collect) has kept are.
-    ///
-    /// It costs O(bytes of the key): a hash, and a comparison with the one key that may be the same. Beside its bytes, the pool keeps some 20 bytes
-    /// for each key.
+    /// Adds a key behind those that the pool has, an equal one each time. O(bytes of the key).
     ///
     /// # Errors
     ///
@@ -71,27 +64,50 @@ impl Pool {
             let fault = Fault::TooLong(Part::Itself, key.len());
             return refused(2, Detail::Thing(Name::NewKey, fault));
         }
-        let hash = self.places.hasher().hash_one(key);
-        let full = Detail::PoolFull(self.bytes.len(), key.len());
-        self.add_by(hash, key).map_or_else(|| refused(1, full), Ok)
-    }
-
-    /// The place of a key by its hash, or none where it is not there and finds no room.
-    fn add_by(&mut self, hash: u64, key: &[u8]) -> Option<KeyAt> {
-        match self.places.get(&hash) {
-            Some(at) if at.bytes(&self.bytes) == key => return Some(*at),
-            _ => {}
-        }
         if self.bytes.len() + key.len() > MOST_POOL_BYTES {
-            return None;
+            return refused(1, Detail::PoolFull(self.bytes.len(), key.len()));
         }
         let at = KeyAt {
             offset: self.bytes.len() as u32,
             length: key.len() as u32,
         };
         self.bytes.extend_from_slice(key);
+        Ok(at)
+    }
+
+    /// The place of a key, which is added where it is not found: two lists of the same 2,000 keys then take the room of one. Found is what this call
+    /// has added before, and what a call of [`collect`](Self::collect) has kept; what [`add`](Self::add) or
+    /// [`Sheet::read_into`](crate::Sheet::read_into) has put there is not looked for.
+    ///
+    /// It costs O(bytes of the key): a hash, and a comparison with the one key that may be the same. Beside its bytes, the pool keeps some 20 bytes
+    /// for each key that can be found.
+    ///
+    /// # Errors
+    ///
+    /// As [`add`](Self::add) is refused, where the key is not found.
+    ///
+    /// ```
+    /// let mut pool = fernsponge::Pool::new();
+    /// let key = pool.add_once(b"DE-FR/05")?;
+    /// assert_eq!(key.bytes(&pool), b"DE-FR/05");
+    /// assert_eq!(pool.add_once(b"DE-FR/05")?, key);
+    /// assert_eq!(pool.len(), 8);
+    /// # Ok::<(), fernsponge::Refusal>(())
+    /// ```
+    pub fn add_once(&mut self, key: &[u8]) -> Result<KeyAt, Refusal> {
+        let hash = self.places.hasher().hash_one(key);
+        self.add_by(hash, key)
+    }
+
+    /// The same by the key's hash.
+    fn add_by(&mut self, hash: u64, key: &[u8]) -> Result<KeyAt, Refusal> {
+        match self.places.get(&hash) {
+            Some(at) if at.bytes(&self.bytes) == key => return Ok(*at),
+            _ => {}
+        }
+        let at = self.add(key)?;
         self.note(hash, at);
-        Some(at)
+        Ok(at)
     }
 
     /// Keeps the place of a key of a hash, if none is kept for it and there is memory.
@@ -114,8 +130,8 @@ impl Pool {
     /// theirs and start before end. The items' offsets are rewritten, so that every item shows the same; nothing else of them changes. Whoever
     /// has one list lends `&mut []` as the other.
     ///
-    /// Items that stand in neither list, and keys that [`add`](Self::add) told before, no longer name what they named. Items may be in any order,
-    /// and their starts may stand above their ends.
+    /// Items that stand in neither list, and keys that [`add`](Self::add) or [`add_once`](Self::add_once) told before, no longer name what they named.
+    /// Items may be in any order, and their starts may stand above their ends.
     ///
     /// After a call that answers, the pool keeps room for 65,536 bytes, so that keys added later need no more memory. Of n keys it makes O(n log n)
     /// comparisons, and at worst n² / 2 moves of two bytes. It takes some 112 KB of stack.
@@ -137,7 +153,7 @@ impl Pool {
     /// let shown = |pool: &Pool, list: &[Item]| list.iter().map(|item| item.shown(pool.bytes())).collect::<Vec<_>>();
     /// let before = shown(&pool, &list);
     /// assert_eq!(before, ["RangeInclusive 0000 0032", "RangeInclusive 0132 0164"]);
-    /// assert_eq!(pool.len(), 204);
+    /// assert_eq!(pool.bytes().len(), 400);
     ///
     /// pool.collect(&mut list, &mut [])?;
     /// assert_eq!(pool.bytes(), [0x00, 0x00, 0x00, 0x32, 0x01, 0x32, 0x01, 0x64]);

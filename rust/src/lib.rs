@@ -16,8 +16,8 @@
 //! let ours = [Item::range(pool.add(&[1])?, pool.add(&[5])?)];
 //! let theirs = [Item::key(pool.add(&[3])?)];
 //!
-//! let lists = intersect_many_ordered(&pool, &ours, &theirs)?;
-//! let shown = |items: &[Item]| items.iter().map(|item| item.shown(&pool)).collect::<Vec<_>>();
+//! let lists = intersect_many_ordered(pool.bytes(), &ours, &theirs)?;
+//! let shown = |items: &[Item]| items.iter().map(|item| item.shown(pool.bytes())).collect::<Vec<_>>();
 //! assert_eq!(shown(&lists.shared), ["Key 03"]);
 //! assert_eq!(shown(&lists.ours), ["Range 01 03", "RangeAfterTo 03 05"]);
 //! assert!(lists.theirs.is_empty());
@@ -46,7 +46,7 @@
 //! | [`RateCard::invoice`] | O(items + keys · log items) comparisons |
 //! | [`intersect_many_ordered`], [`intersect_many_into`] | O(ours + theirs) comparisons |
 //! | [`insert`], [`insert_item`] | O(items) comparisons |
-//! | [`Pool::add`] | O(bytes of the key) |
+//! | [`Pool::add`], [`Pool::add_once`] | O(bytes of the key) |
 //! | [`Pool::collect`], [`collect_into`] | O(n log n) comparisons of n keys, and at worst n² / 2 moves of two bytes |
 //! | [`Sheet::read`], [`Sheet::read_into`], [`Sheet::write`] | O(bytes of the text + items) |
 //! | [`PositionIntervals::from_query_items`] | O(items) where they ascend apart, else O(items · log items) |
@@ -127,14 +127,6 @@ pub use sheet::{Sheet, SheetCause, SheetError, SheetFault};
 ///
 /// ```compile_fail,E0638
 /// fn apart(fernsponge::Pair { shared: _, ours_left: _, ours_right: _, theirs_left: _, theirs_right: _ }: fernsponge::Pair) {}
-/// ```
-///
-/// ```
-/// fn apart(fernsponge::Counts { shared: _, ours: _, theirs: _, .. }: fernsponge::Counts) {}
-/// ```
-///
-/// ```compile_fail,E0638
-/// fn apart(fernsponge::Counts { shared: _, ours: _, theirs: _ }: fernsponge::Counts) {}
 /// ```
 #[cfg(doctest)]
 struct MayGrow;

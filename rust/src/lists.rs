@@ -70,7 +70,6 @@ pub struct Lists {
 
 /// How many items the three lists have.
 #[derive(Clone, Copy, Debug, Default, PartialEq, Eq, Hash)]
-#[non_exhaustive]
 pub struct Counts {
     /// Of what both hold.
     pub shared: usize,

@@ -78,9 +78,9 @@ pub struct Span {
 /// let mut covered = PositionIntervals::from_query_items(pool.bytes(), &items, 100)?;
 /// assert_eq!(covered.len(), 14);
 /// covered.cover(8..20)?;
-/// assert!(covered.iter().eq([0..24]) && covered.len() == 24);
+/// assert_eq!((covered.iter().collect::<Vec<_>>(), covered.len()), (vec![0..24], 24));
 /// covered.uncover(3..5)?;
-/// assert!(covered.iter().eq([0..3, 5..24]) && covered.len() == 22);
+/// assert_eq!((covered.iter().collect::<Vec<_>>(), covered.len()), (vec![0..3, 5..24], 22));
 /// # Ok::<(), fernsponge::Refusal>(())
 /// ```
 ///
@@ -186,8 +186,8 @@ impl PositionIntervals {
 
     /// What [`from_stored`](Self::from_stored) takes: the whole buffer, how many pairs stand at its front, and the total.
     #[must_use]
-    pub fn into_stored(self) -> (Vec<u64>, usize, RowCount) {
-        (self.words, self.pairs, RowCount(self.total))
+    pub fn into_stored(self) -> (Vec<u64>, usize, u64) {
+        (self.words, self.pairs, self.total)
     }
 
     /// The words of the intervals alone, start and end of each: what to store, beside the total, which is [`len`](Self::len).
@@ -212,8 +212,8 @@ impl PositionIntervals {
     /// How many positions are covered. It is read and not counted, O(1): the total comes from proved calls alone, which tell it when intervals
     /// are made or changed, and it is what counting them afresh gives.
     #[must_use]
-    pub fn len(&self) -> RowCount {
-        RowCount(self.total)
+    pub fn len(&self) -> u64 {
+        self.total
     }
 
     /// Whether none is. O(1).
@@ -248,7 +248,7 @@ impl PositionIntervals {
     /// let mut covered = PositionIntervals::from_ranges(&[0..10])?;
     /// covered.uncover(4..6)?;
     /// covered.uncover(7..7)?;
-    /// assert!(covered.iter().eq([0..4, 6..10]) && covered.len() == 8);
+    /// assert_eq!((covered.iter().collect::<Vec<_>>(), covered.len()), (vec![0..4, 6..10], 8));
     /// # Ok::<(), fernsponge::Refusal>(())
     /// ```
     pub fn uncover(&mut self, range: Range<impl Into<LogPosition>>) -> Result<(), Refusal> {

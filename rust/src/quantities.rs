@@ -64,13 +64,15 @@ quantity! {
 }
 
 quantity! {
-    /// How many rows of a log there are, or are meant: the length of a log, the rows that are covered, the most rows of a window.
+    /// How many rows of a log there are, or are meant: the length of a log, the rows that are missing or extra, the most rows of a window. How many
+    /// are covered is a plain number, as it is stored.
     ///
     /// ```
     /// use fernsponge::{PositionIntervals, RowCount};
     ///
-    /// let rows: RowCount = PositionIntervals::from_ranges(&[5..10, 20..24])?.len();
-    /// assert!(rows == 9 && rows > RowCount(8));
+    /// let covered = PositionIntervals::from_ranges(&[5..10, 20..24])?;
+    /// let rows: RowCount = covered.missing_from(&[])?.total();
+    /// assert!(rows == covered.len() && rows > RowCount(8));
     /// # Ok::<(), fernsponge::Refusal>(())
     /// ```
     RowCount

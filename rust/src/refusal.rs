@@ -60,19 +60,20 @@ pub enum Reason {
 /// let (low, high) = (pool.add(&[1])?, pool.add(&[5])?);
 /// let refusal = intersect_many_ordered(pool.bytes(), &[Item::range(high, low)], &[]).unwrap_err();
 /// assert_eq!((refusal.reason(), refusal.side, refusal.index), (Reason::NotUpright, Side::Ours, 0));
-/// assert_eq!(refusal.to_string(), "our item 0: its start is above its end, or they are equal and one of them is left out (refusal 3)");
+/// assert_eq!(refusal.to_string(), "our item 0: its start stands above its end (refusal 3)");
 /// # Ok::<(), fernsponge::Refusal>(())
 /// ```
 ///
-/// The text of a refusal by a typed call names what that call was given: which pool, list, item or key it is, which limit it passes, and by how
-/// much. The library decides what is refused, and with which number, side and index; only the words come from a look at the input afterwards. Two
-/// refusals are equal where number, side and index are, whatever their texts name.
+/// `{}` writes the general text of the number. `{:#}` writes the detailed one: of a refusal by a typed call it names what that call was given, which
+/// pool, list, item or key it is, which limit it passes, and by how much; where nothing of that is known, it is a general text too. The library decides
+/// what is refused, and with which number, side and index; only the words come from a look at the input afterwards. Two refusals are equal where
+/// number, side and index are, whatever their texts name.
 ///
 /// ```
 /// use fernsponge::{check_list, Refusal, Side};
 ///
 /// let refusal = check_list(&[7; 70_000], &[], Side::Theirs).unwrap_err();
-/// assert_eq!(refusal.to_string(), "the pool has 70,000 bytes, and a pool has at most 65,536 (refusal 1)");
+/// assert_eq!(format!("{refusal:#}"), "the pool has 70,000 bytes, and a pool has at most 65,536 (refusal 1)");
 /// assert_eq!(refusal, Refusal::new(1, Side::Ours, 0));
 /// ```
 #[derive(Clone, Copy, Debug)]
@@ -85,12 +86,12 @@ pub struct Refusal {
     /// The index of the item, row, amount, key, pair or position that is meant, from 0; a wrong stored total has the number of pairs; a pool,
     /// the shape of a list, a card or an invoice, want of room, too many keys and windows of no rows have 0.
     pub index: u64,
-    /// What its text names of the input, where a call has looked.
+    /// What its detailed text names of the input, where a call has looked.
     pub(crate) detail: Option<Detail>,
 }
 
 impl Refusal {
-    /// A refusal of which nothing more is known: its text is the general one of its number.
+    /// A refusal of which nothing more is known: both its texts are general ones of its number.
     #[must_use]
     pub const fn new(number: u8, side: Side, index: u64) -> Self {
         Self {
@@ -101,7 +102,8 @@ impl Refusal {
         }
     }
 
-    /// The refusal that a call of [`words`](crate::words) returned, or none where it returned 0. Its text is the general one of its number.
+    /// The refusal that a call of [`words`](crate::words) returned, or none where it returned 0. Nothing more is known of it, as of one by
+    /// [`new`](Self::new).
     ///
     /// # Errors
     ///
@@ -125,13 +127,13 @@ impl Refusal {
         Self::from_number(returned).map_err(|refusal| refusal.with(look(refusal)))
     }
 
-    /// The same refusal, whose text names this.
+    /// The same refusal, whose detailed text names this.
     pub(crate) const fn with(mut self, detail: Option<Detail>) -> Self {
         self.detail = detail;
         self
     }
 
-    /// How its text calls the side.
+    /// How its texts call the side.
     pub(crate) const fn whose(&self) -> &'static str {
         match self.side {
             Side::Ours => "our",
@@ -167,7 +169,7 @@ impl Refusal {
     }
 }
 
-// what a text names is left out, so that the same refusal of a typed call and of one on words is equal
+// what the detailed text names is left out, so that the same refusal of a typed call and of one on words is equal
 
 impl PartialEq for Refusal {
     fn eq(&self, other: &Self) -> bool {
@@ -185,9 +187,12 @@ impl Hash for Refusal {
 
 impl fmt::Display for Refusal {
     fn fmt(&self, f: &mut fmt::Formatter<'_>) -> fmt::Result {
-        if let Some(detail) = self.detail {
-            detail.write(*self, f)?;
-            return write!(f, " (refusal {})", self.number);
+        match self.detail {
+            Some(detail) if f.alternate() => {
+                detail.write(*self, f)?;
+                return write!(f, " (refusal {})", self.number);
+            }
+            _ => {}
         }
         let whose = self.whose();
         let (what, why) = match self.reason() {
@@ -202,7 +207,8 @@ impl fmt::Display for Refusal {
                 "a key is longer than 255 bytes or reaches past the pool",
             ),
             Reason::KeyOutside => ("item", "a key of it is longer than 255 bytes or reaches past the pool"),
-            Reason::NotUpright => ("item", "its start is above its end, or they are equal and one of them is left out"),
+            Reason::NotUpright if f.alternate() => ("item", "its start is above its end, or they are equal and one of them is left out"),
+            Reason::NotUpright => ("item", "its start stands above its end"),
             Reason::OutOfOrder => ("item", "it does not stand in order after the items before it"),
             Reason::Wrapped => ("item", "a wrapped item cannot ask for positions, and has no row in a sheet"),
             Reason::NoRoom => return write!(f, "the result needs more room than was lent (refusal 6)"),

@@ -170,7 +170,7 @@ fn row_length(item: &Item) -> usize {
     name.len() + 4 + keys.sum::<usize>()
 }
 
-/// Why a sheet is not read.
+/// Why a sheet is not read. `{:#}` names what is not enough for it, as of a [`Refusal`]; where a fault is known, both texts are that of the fault.
 #[derive(Clone, Copy, Debug, PartialEq, Eq, Hash)]
 pub struct SheetError {
     /// What the library refuses it with.
@@ -201,7 +201,7 @@ impl fmt::Display for SheetError {
     fn fmt(&self, f: &mut fmt::Formatter<'_>) -> fmt::Result {
         match (self.fault, self.refusal.reason()) {
             (Some(fault), _) => write!(f, "{fault} (refusal {})", self.refusal.number),
-            (None, Reason::NoRoom) if self.refusal.detail.is_none() => f.write_str(
+            (None, Reason::NoRoom) if !f.alternate() || self.refusal.detail.is_none() => f.write_str(
                 "no room: a sheet has at most 2,048 rows, and the pool that its keys go to at most 65,536 bytes (refusal 6)",
             ),
             (None, _) => self.refusal.fmt(f),

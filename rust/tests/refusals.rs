@@ -1,4 +1,4 @@
-//! The texts of refusals: each sentence once, whole; and that number, side and index stay what the library has said, whatever a text names.
+//! The detailed texts of refusals, as `{:#}` writes them: each sentence once, whole; and that number, side and index stay what the library has said, whatever a text names.
 
 use fernsponge::*;
 use std::collections::HashSet;
@@ -13,12 +13,21 @@ fn item(code: u32, wrapper: u32, start: (u32, u32), end: (u32, u32)) -> Item {
     Item::from_words([code, wrapper, start.0, start.1, end.0, end.1])
 }
 
-/// A call was refused with this number, side and index, and this text, which has the number at its end.
+/// A call was refused with this number, side and index, and this detailed text, which has the number at its end.
 #[track_caller]
 fn refused<T>(answer: Result<T, Refusal>, told: (u8, Side, u64), text: &str) {
     let refusal = answer.map(|_| ()).unwrap_err();
     assert_eq!((refusal.number, refusal.side, refusal.index), told);
-    assert_eq!(refusal.to_string(), format!("{text} (refusal {})", told.0));
+    assert_eq!(
+        format!("{refusal:#}"),
+        format!("{text} (refusal {})", told.0)
+    );
+    // without it the text is the general one
+    let (number, side, index) = told;
+    assert_eq!(
+        refusal.to_string(),
+        Refusal::new(number, side, index).to_string()
+    );
 }
 
 const OURS: Side = Side::Ours;
@@ -74,7 +83,10 @@ fn general_texts() {
         (13, OURS, "our input 3: refused for a reason that this version does not know (refusal 13)"),
     ] {
         let refusal = Refusal::new(number, side, 3);
-        assert_eq!(refusal.to_string(), text);
+        assert_eq!(format!("{refusal:#}"), text);
+        // one of them is shorter without it
+        let short = text.replace("is above its end, or they are equal and one of them is left out", "stands above its end");
+        assert_eq!(refusal.to_string(), short);
         let returned = u64::from(number) + 256 * (side == THEIRS) as u64 + 65_536 * 3;
         assert_eq!(Refusal::from_number(returned), Err(refusal));
     }
@@ -84,7 +96,7 @@ fn general_texts() {
 fn what_a_text_names_is_no_part_of_a_refusal() {
     let named = check_list(&[7; 70_000], &[], OURS).unwrap_err();
     let general = Refusal::new(1, OURS, 0);
-    assert_ne!(named.to_string(), general.to_string());
+    assert_ne!(format!("{named:#}"), format!("{general:#}"));
     assert_eq!(named, general);
     assert_eq!(HashSet::from([named, general]).len(), 1);
 }
@@ -140,6 +152,16 @@ fn pools() {
     );
     refused(
         pool.add(&[7; 300]),
+        (2, OURS, 0),
+        "the new key: it has 300 bytes, and a key has at most 255",
+    );
+    refused(
+        pool.add_once(b"ab"),
+        told,
+        "the pool has 65,535 bytes, the new key 2, and a pool has at most 65,536",
+    );
+    refused(
+        pool.add_once(&[7; 300]),
         (2, OURS, 0),
         "the new key: it has 300 bytes, and a key has at most 255",
     );
@@ -420,8 +442,10 @@ fn sheets() {
         "the pool has 65,280 bytes before the keys of the sheet, and would have more than 65,536 with them",
     );
     // of a refusal that comes from elsewhere nothing is known
+    let error = SheetError::new(Refusal::new(6, OURS, 0), b"");
     assert_eq!(
-        SheetError::new(Refusal::new(6, OURS, 0), b"").to_string(),
+        format!("{error:#}"),
         "no room: a sheet has at most 2,048 rows, and the pool that its keys go to at most 65,536 bytes (refusal 6)"
     );
+    assert_eq!(error.to_string(), format!("{error:#}"));
 }

@@ -41,7 +41,7 @@ fn two_lists_of_the_same_keys_fit_once() {
     let mut pool = Pool::new();
     let keys = lanes(4_000);
     let [ours, theirs] = [0, 1].map(|_| {
-        let places = keys.iter().map(|key| pool.add(key));
+        let places = keys.iter().map(|key| pool.add_once(key));
         places.collect::<Result<Vec<_>, _>>().unwrap()
     });
     assert_eq!(ours, theirs);
@@ -51,21 +51,24 @@ fn two_lists_of_the_same_keys_fit_once() {
     }
     // a full pool takes the keys that it has, and the empty one
     for number in 0..96_u8 {
-        pool.add(&[number; 16]).unwrap();
+        pool.add_once(&[number; 16]).unwrap();
     }
     assert_eq!(pool.len(), 65_536);
-    assert_eq!(pool.add(&keys[7]), Ok(ours[7]));
-    assert_eq!(pool.add(&[1]), Err(Refusal::new(1, Side::Ours, 0)));
-    let empty = pool.add(&[]).unwrap();
-    assert_eq!((pool.add(&[]), empty.length), (Ok(empty), 0));
+    assert_eq!(pool.add_once(&keys[7]), Ok(ours[7]));
+    assert_eq!(pool.add_once(&[1]), Err(Refusal::new(1, Side::Ours, 0)));
+    let empty = pool.add_once(&[]).unwrap();
+    assert_eq!((pool.add_once(&[]), empty.length), (Ok(empty), 0));
 }
 
 #[test]
 fn a_key_is_found_by_its_bytes_alone() {
     let mut pool = Pool::new();
-    let whole = pool.add(b"abc").unwrap();
+    let whole = pool.add_once(b"abc").unwrap();
     // a part of a key that stands there, and a longer one, are keys of their own
-    let (part, longer) = (pool.add(b"ab").unwrap(), pool.add(b"abcd").unwrap());
+    let (part, longer) = (
+        pool.add_once(b"ab").unwrap(),
+        pool.add_once(b"abcd").unwrap(),
+    );
     assert_eq!([whole, part, longer], [key(0, 3), key(3, 2), key(5, 4)]);
     assert_eq!(&*pool, b"abcababcd");
 }
@@ -73,42 +76,45 @@ fn a_key_is_found_by_its_bytes_alone() {
 #[test]
 fn keys_are_found_after_a_collection() {
     let mut pool = Pool::new();
-    let [a, b, c] = [b"aa", b"bb", b"cc"].map(|key| pool.add(key).unwrap());
+    let [a, b, c] = [b"aa", b"bb", b"cc"].map(|key| pool.add_once(key).unwrap());
     let (mut ours, mut theirs) = ([Item::key(c)], [Item::range(b, c)]);
     pool.collect(&mut ours, &mut theirs).unwrap();
     assert_eq!(&*pool, b"ccbb");
     // the kept ones stand where the items say, and the dropped one is added anew
-    assert_eq!(ours, [Item::key(pool.add(b"cc").unwrap())]);
-    let (b_now, c_now) = (pool.add(b"bb").unwrap(), pool.add(b"cc").unwrap());
+    assert_eq!(ours, [Item::key(pool.add_once(b"cc").unwrap())]);
+    let (b_now, c_now) = (pool.add_once(b"bb").unwrap(), pool.add_once(b"cc").unwrap());
     assert_eq!(theirs, [Item::range(b_now, c_now)]);
-    let a_now = pool.add(b"aa").unwrap();
+    let a_now = pool.add_once(b"aa").unwrap();
     assert_eq!((a, a_now), (key(0, 2), key(4, 2)));
     // a refused collection leaves what is known
     let before = pool.bytes().to_vec();
     assert!(pool.collect(&mut [Item::key(key(5, 2))], &mut []).is_err());
-    assert_eq!((pool.add(b"aa"), pool.bytes()), (Ok(a_now), &before[..]));
+    assert_eq!(
+        (pool.add_once(b"aa"), pool.bytes()),
+        (Ok(a_now), &before[..])
+    );
 }
 
 #[test]
 fn keys_are_found_beside_a_sheet_and_in_a_copy() {
     let mut pool = Pool::new();
-    let first = pool.add(&[0x05]).unwrap();
+    let first = pool.add_once(&[0x05]).unwrap();
     let items = Sheet::read_into(b"Range,05,07\r\n", &mut pool).unwrap();
     assert_eq!(items, [Item::range(key(1, 1), key(2, 1))]);
-    assert_eq!(pool.add(&[0x05]), Ok(first));
+    assert_eq!(pool.add_once(&[0x05]), Ok(first));
     // a sheet's keys are not looked for
-    assert_eq!(pool.add(&[0x07]), Ok(key(3, 1)));
+    assert_eq!(pool.add_once(&[0x07]), Ok(key(3, 1)));
     // a refused sheet leaves what is known
     assert!(Sheet::read_into(b"Key,5,", &mut pool).is_err());
     let mut copy = pool.clone();
     for pool in [&mut pool, &mut copy] {
-        assert_eq!(pool.add(&[0x07]), Ok(key(3, 1)));
+        assert_eq!(pool.add_once(&[0x07]), Ok(key(3, 1)));
         assert_eq!(pool.bytes(), [5, 5, 7, 7]);
     }
     // what one of them gets, the other does not know
-    copy.add(&[0x09]).unwrap();
-    assert_eq!(pool.add(&[0x08]), Ok(key(4, 1)));
-    assert_eq!(pool.add(&[0x09]), Ok(key(5, 1)));
+    copy.add_once(&[0x09]).unwrap();
+    assert_eq!(pool.add_once(&[0x08]), Ok(key(4, 1)));
+    assert_eq!(pool.add_once(&[0x09]), Ok(key(5, 1)));
     assert_eq!(
         (pool.bytes(), copy.bytes()),
         (&[5, 5, 7, 7, 8, 9][..], &[5, 5, 7, 7, 9][..])
@@ -156,7 +162,7 @@ fn positions_and_numbers_of_rows() {
     let mut covered = PositionIntervals::from_stored(vec![0, 10], 1, RowCount(10)).unwrap();
     covered.cover(LogPosition(20)..LogPosition(24)).unwrap();
     covered.uncover(3..5_u64).unwrap();
-    assert_eq!(covered.len(), RowCount(12));
+    assert_eq!(covered.len(), 12);
     assert!(covered.contains(LogPosition(20)) && !covered.contains(4));
     let missing = covered.missing_from(&[0, 20]).unwrap();
     assert_eq!(missing.total(), 10);

@@ -240,6 +240,10 @@ fn never_over_an_input_under_another_name() {
             "/dev/null",
         ])
         .answers("");
+    // the folder stays, below cli/target; the gate refuses links in the checkout
+    for link in ["link.csv", "dang.csv", "far.csv"] {
+        std::fs::remove_file(folder.0.join(link)).unwrap();
+    }
 }
 
 /// Standard output is a file like any other where it is one.
