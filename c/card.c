@@ -40,7 +40,7 @@ static void print_refusal(uint64_t refusal)
     const char *what = number == 14 ? "amount" : FERNSPONGE_SIDE(refusal) == 0 ? "item" : "key";
     const char *why = number == 1    ? "malformed, or not one amount for each item"
                       : number == 2  ? "a key longer than 255 bytes, or past the pool"
-                      : number == 3  ? "its start is above its end, or they are equal and one is left out"
+                      : number == 3  ? "its start stands above its end"
                       : number == 4  ? "it does not start above the end of the one before it"
                       : number == 14 ? "not from -100000000 to 100000000"
                                      : "an invoice has at most 1,000";
