@@ -3,47 +3,26 @@
 use fernsponge::*;
 
 #[test]
-fn a_collected_pool_goes_on() {
+fn equal_keys_take_the_room_of_one() {
     let (mut pool, mut ours, mut theirs) = (Pool::new(), vec![], vec![]);
     let add = |pool: &mut Pool, list: &mut Vec<Item>, low: u8, high: u8| {
         let low = pool.add_once(&[0, low]).unwrap();
         let high = pool.add_once(&[high]).unwrap();
-        let item = Item::range_inclusive(low, high);
-        insert(pool.bytes(), list, item).unwrap();
-        item
+        insert(pool.bytes(), list, Item::range_inclusive(low, high)).unwrap();
     };
     for byte in 1..100 {
         add(&mut pool, &mut ours, byte, byte + 1);
     }
-    let lost = add(&mut pool, &mut theirs, 50, 60);
+    add(&mut pool, &mut theirs, 50, 60);
     // of the last keys, 00 32 and 3C, both were there
-    assert_eq!((pool.bytes().len(), ours.len()), (297, 1));
-    // a list that is refused leaves the pool, and the lists, as they are
-    let (before, kept) = (pool.bytes().to_vec(), ours.clone());
-    let past = Item::key(KeyAt {
-        offset: 300,
-        length: 1,
-    });
-    let refusal = pool.collect(&mut ours, &mut [lost, past]).unwrap_err();
-    assert_eq!(
-        (refusal.reason(), refusal.side, refusal.index),
-        (Reason::KeyOutside, Side::Theirs, 1)
-    );
-    assert_eq!((pool.bytes(), &ours), (&before[..], &kept));
+    assert_eq!((pool.len(), ours.len()), (297, 1));
 
+    // what a collection keeps is found where it stands then, and what it drops is added behind
     pool.collect(&mut ours, &mut theirs).unwrap();
     assert_eq!(pool.bytes(), [0, 1, 100, 0, 50, 60]);
-    assert_eq!(ours[0].words(), [2, 0, 0, 2, 2, 1]);
-    assert_eq!(theirs[0].words(), [2, 0, 3, 2, 5, 1]);
-    // new keys go behind those
-    add(&mut pool, &mut ours, 0, 101);
-    assert_eq!(pool.bytes(), [0, 1, 100, 0, 50, 60, 0, 0, 101]);
-    assert_eq!(ours[0].shown(pool.bytes()), "RangeInclusive 0000 65");
-    // and theirs is dropped where it is not lent
-    pool.collect(&mut [], &mut ours).unwrap();
-    assert_eq!(pool.bytes(), [0, 0, 101]);
-    pool.collect(&mut [], &mut []).unwrap();
-    assert_eq!(pool.bytes(), []);
+    let places =
+        [&[0, 50][..], &[60], &[0, 51], &[0, 51]].map(|key| pool.add_once(key).unwrap().offset);
+    assert_eq!((places, pool.len()), ([3, 5, 6, 6], 8));
 }
 
 #[test]
