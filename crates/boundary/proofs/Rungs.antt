@@ -1,13 +1,14 @@
 -- The order of boundaries by their keys and the rungs of their kinds. Assumes nothing.
+use Rattle.std.specs.declared.cmp.Ordering.TheVariants.{Equal}
 use Prim.Native.Nat.{ℕ, zero, suc}
 use mathlib.Core.Path.{◌≡◌, refl, sym, ap, ◌∙◌}
 use mathlib.Core.List.{List}
 use mathlib.Core.Bool.{true, false, ◌&&◌, cond}
-use Rattle.key_order.specs.declared.Ordering.TheVariants.{Equal}
 use Rattle.key_order.specs.Order.{compare_numbers, compare_keys, then_by}
 use Rattle.key_order.specs.Boundary.{compare_boundaries}
 use Rattle.boundary.specs.declared.BoundaryKind.{BoundaryKind}
 use Rattle.boundary.specs.declared.BoundaryKind.TheVariants.{UnboundedStart, UnboundedEnd, Inclusive, ExclusiveStart, ExclusiveEnd}
+use Rattle.boundary.specs.contracts.BoundaryKindOrd.TheImpl as derived
 use Rattle.boundary.specs.Kinds.{boundary}
 use Rattle.boundary.specs.Rungs.{rung, bounded}
 
@@ -67,3 +68,32 @@ kind_at_lem ExclusiveEnd = refl
 -- kinds of one rung are the same
 pub rung_apart : (k l : BoundaryKind) → rung k ≡ rung l → k ≡ l
 rung_apart k l e = sym (kind_at_lem k) ∙ ap kind_at e ∙ kind_at_lem l
+
+-- the kinds stand as they are declared: the derived order is that of the rungs
+pub kinds_cmp : (k l : BoundaryKind) → derived.cmp-value.it k l ≡ compare_numbers (rung k) (rung l)
+unfolding compare_numbers
+kinds_cmp UnboundedStart UnboundedStart = refl
+kinds_cmp UnboundedStart UnboundedEnd = refl
+kinds_cmp UnboundedStart Inclusive = refl
+kinds_cmp UnboundedStart ExclusiveStart = refl
+kinds_cmp UnboundedStart ExclusiveEnd = refl
+kinds_cmp UnboundedEnd UnboundedStart = refl
+kinds_cmp UnboundedEnd UnboundedEnd = refl
+kinds_cmp UnboundedEnd Inclusive = refl
+kinds_cmp UnboundedEnd ExclusiveStart = refl
+kinds_cmp UnboundedEnd ExclusiveEnd = refl
+kinds_cmp Inclusive UnboundedStart = refl
+kinds_cmp Inclusive UnboundedEnd = refl
+kinds_cmp Inclusive Inclusive = refl
+kinds_cmp Inclusive ExclusiveStart = refl
+kinds_cmp Inclusive ExclusiveEnd = refl
+kinds_cmp ExclusiveStart UnboundedStart = refl
+kinds_cmp ExclusiveStart UnboundedEnd = refl
+kinds_cmp ExclusiveStart Inclusive = refl
+kinds_cmp ExclusiveStart ExclusiveStart = refl
+kinds_cmp ExclusiveStart ExclusiveEnd = refl
+kinds_cmp ExclusiveEnd UnboundedStart = refl
+kinds_cmp ExclusiveEnd UnboundedEnd = refl
+kinds_cmp ExclusiveEnd Inclusive = refl
+kinds_cmp ExclusiveEnd ExclusiveStart = refl
+kinds_cmp ExclusiveEnd ExclusiveEnd = refl

@@ -1,5 +1,5 @@
--- Where a kind of boundary stands among those of one key, the unbounded ones at the ends: what `compare_boundaries` goes by. `proofs/Rungs.antt`
--- says that it gives the order of boundaries. It serves 01 keys.7, keys.8. Assumes nothing.
+-- Where a kind of boundary stands among those of one key, the unbounded ones at the ends. `proofs/Rungs.antt` says that the kinds are declared in
+-- this order, by which `compare_boundaries` goes, and that it gives the order of boundaries. It serves 01 keys.7, keys.8. Assumes nothing.
 use Rattle.std.specs.Prelude.{ℕ, Bool, ◌&&◌, ltb}
 use Rattle.boundary.specs.declared.BoundaryKind.{BoundaryKind}
 use Rattle.boundary.specs.declared.BoundaryKind.TheVariants.{UnboundedStart, UnboundedEnd, Inclusive, ExclusiveStart, ExclusiveEnd}

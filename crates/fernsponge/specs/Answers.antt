@@ -1,15 +1,14 @@
 -- The numbers that stand for answers in the C interface, and what a call returns and leaves. Definitions only. Assumes nothing.
-use Rattle.std.specs.Prelude.{ℕ, ◌+◌, ◌*◌, min, List, [], ◌∷◌, Bool, cond, get_or, leb}
+use Rattle.query_item.specs.declared.QueryItem.{QueryItem}
+use Rattle.std.specs.Prelude.{ℕ, ◌+◌, ◌*◌, min, List, [], ◌∷◌, Bool, cond, get_or, leb, Option, None, Some, Ok, Err}
 use Rattle.query_item.specs.declared.ItemWords.{ItemWords}
 use Rattle.query_item.specs.declared.RangeSet.{RangeSet}
-use Rattle.query_item.specs.declared.MaybeItem.{MaybeItem}
-use Rattle.query_item.specs.declared.MaybeItem.TheVariants.{NoItem, Item}
 use Rattle.query_item.specs.Items.{key_at, absent, item_words, words_of, flat}
 use Rattle.query_item.specs.Boundaries.{kind_of, key_of, with_key, from_to}
 use Rattle.range_borrowed.specs.declared.KeyContainmentResult.{KeyContainmentResult}
 use Rattle.range_borrowed.specs.Kinds.{kind_number, kind_numbered}
 use Rattle.item_check.specs.declared.Refusal.{Refusal}
-use Rattle.item_check.specs.Checks.{Answer, answered, refused_as}
+use Rattle.item_check.specs.Checks.{Answer}
 use Rattle.fernsponge.specs.declared.numbers.SetWords.{SetWords}
 
 -- ---- numbers (01 form.11); that of an order is `order_number` of `key_order`
@@ -51,15 +50,15 @@ set_words_in ns = record {
 
 -- an item that may be missing: 1 and its words, which are plain, or seven times 0
 
-abbrev pub maybe_count : MaybeItem → ℕ
-maybe_count NoItem = 0
-maybe_count (Item q) = 1
+abbrev pub maybe_count : Option QueryItem → ℕ
+maybe_count None = 0
+maybe_count (Some q) = 1
 
-abbrev pub maybe_words : MaybeItem → ItemWords
-maybe_words NoItem = item_words 0 0 absent absent
-maybe_words (Item q) = words_of 0 q
+abbrev pub maybe_words : Option QueryItem → ItemWords
+maybe_words None = item_words 0 0 absent absent
+maybe_words (Some q) = words_of 0 q
 
-abbrev pub maybe_numbers : MaybeItem → List ℕ
+abbrev pub maybe_numbers : Option QueryItem → List ℕ
 maybe_numbers m = maybe_count m ∷ flat (maybe_words m)
 
 -- two: the key is held; it sits on an exclusive bound
@@ -78,13 +77,13 @@ refusal_number r = r.number + 256 * r.side + 65536 * min r.index most_index
 
 -- the returned number: 0 is acceptance
 abbrev pub returned : {A : Type 0} → Answer A → ℕ
-returned (answered a) = 0
-returned (refused_as r) = refusal_number r
+returned (Ok a) = 0
+returned (Err r) = refusal_number r
 
 -- a place lent for a value of the answer: the value; where the call refuses, what it held before
 abbrev pub left : {A : Type 0} → {B : Type 0} → (A → B) → Answer A → B → B
-left value (answered a) held = value a
-left value (refused_as r) held = held
+left value (Ok a) held = value a
+left value (Err r) held = held
 
 -- a number that is told as it is
 abbrev pub itself : ℕ → ℕ

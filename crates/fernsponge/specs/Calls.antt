@@ -1,14 +1,14 @@
 -- What is answered in module 2 where a boundary's kind comes as a number. Definitions only. Assumes nothing.
-use Rattle.std.specs.Prelude.{ℕ, List, Bool, cond, not, ◌&&◌, ◌||◌}
-use Rattle.key_order.specs.declared.Ordering.{Ordering}
+use Rattle.query_item.specs.declared.QueryItem.{QueryItem}
+use Rattle.std.specs.declared.cmp.Ordering.{Ordering}
+use Rattle.std.specs.Prelude.{ℕ, List, Bool, cond, not, ◌&&◌, ◌||◌, Option, Ok}
 use Rattle.key_order.specs.Boundary.{compare_boundaries}
 use Rattle.boundary.specs.declared.BoundaryKind.{BoundaryKind}
-use Rattle.query_item.specs.declared.MaybeItem.{MaybeItem}
 use Rattle.boundary.specs.Kinds.{boundary, invert_kind}
 use Rattle.range_borrowed.specs.declared.Direction.{Direction}
 use Rattle.range_borrowed.specs.declared.Direction.TheVariants.{LeftOf, RightOf}
 use Rattle.range_borrowed.specs.Kinds.{kind_numbered}
-use Rattle.item_check.specs.Checks.{Answer, answered, refused, Verdict, accepted, and_then, nonzero}
+use Rattle.item_check.specs.Checks.{Answer, refused, Verdict, accepted, and_then, nonzero}
 use Rattle.item_ask.specs.Calls.{to_query_item_answer}
 use Rattle.fernsponge.specs.declared.numbers.SetWords.{SetWords}
 use Rattle.fernsponge.specs.Answers.{is_kind, is_unbounded, set_of_words}
@@ -23,10 +23,10 @@ kinds_verdict m n = cond (is_kind m && is_kind n) accepted (refused 1 0 0)
 
 abbrev pub compare_answer : ℕ → List ℕ → ℕ → List ℕ → Answer Ordering
 compare_answer left a right b =
-    and_then (kinds_verdict left right) (answered (compare_boundaries (boundary (kind_numbered left) a) (boundary (kind_numbered right) b)))
+    and_then (kinds_verdict left right) (Ok (compare_boundaries (boundary (kind_numbered left) a) (boundary (kind_numbered right) b)))
 
 abbrev pub invert_answer : ℕ → Bool → Answer BoundaryKind
-invert_answer n is_start = and_then (kind_verdict n) (answered (invert_kind (kind_numbered n) is_start))
+invert_answer n is_start = and_then (kind_verdict n) (Ok (invert_kind (kind_numbered n) is_start))
 
 -- 01 keys.5, no.1: unknown kind, as an unknown code; absent key not 0: an unbounded boundary has no key
 abbrev pub malformed_set : SetWords → Bool
@@ -40,7 +40,7 @@ abbrev pub set_words_verdict : SetWords → Verdict
 set_words_verdict w = cond (malformed_set w) (refused 1 0 0) accepted
 
 -- 01 refusal.6: the refusal of such words and that of the pool are the same, so that their order shows nowhere
-abbrev pub between_answer : List ℕ → SetWords → Answer MaybeItem
+abbrev pub between_answer : List ℕ → SetWords → Answer (Option QueryItem)
 between_answer pool w = and_then (set_words_verdict w) (to_query_item_answer pool (set_of_words w))
 
 -- 01 m2.4: left of a key, or else right of it

@@ -1,6 +1,6 @@
 -- What the calls of module 6 give back. Definitions only. Assumes nothing.
-use Rattle.std.specs.Prelude.{ℕ, ◌≡◌, List, length}
-use Rattle.item_check.specs.Checks.{Answer, answered, and_then}
+use Rattle.std.specs.Prelude.{ℕ, ◌≡◌, List, length, Ok}
+use Rattle.item_check.specs.Checks.{Answer, and_then}
 use Rattle.position_query.specs.Covered.{build_verdict, FromQueryItems}
 use Rattle.position_report.specs.declared.PositionMismatch.{PositionMismatch}
 use Rattle.fernsponge.specs.Answers.{returned, left}
@@ -24,6 +24,6 @@ rows_in a = a.1
 -- total that it tells, and the places of these two as they were where it refuses
 pub record GivesPairs (pool ws : List ℕ) (count : ℕ) (out : List ℕ) (pairs total r : ℕ) (out' : List ℕ) (pairs' total' : ℕ) : Type 0 where
   pub number : r ≡ returned (build_verdict pool ws count (length out))
-  pub written : FromQueryItems pool ws count out out' (and_then (build_verdict pool ws count (length out)) (answered (pairs', total')))
+  pub written : FromQueryItems pool ws count out out' (and_then (build_verdict pool ws count (length out)) (Ok (pairs', total')))
   pub kept : pairs' ≡ left (λ u. pairs') (build_verdict pool ws count (length out)) pairs
   pub total_kept : total' ≡ left (λ u. total') (build_verdict pool ws count (length out)) total

@@ -8,8 +8,8 @@ ghost use Rattle.fernsponge.specs.Answers.{returned, left};
 ghost use Rattle.fernsponge.specs.Cards.{found_numbers, has_rate, sum_in, without_in, cents_in};
 
 use crate::numbers::refusal_number;
-use item_find::{FoundAnswer, find_item};
-use rate_card::{InvoiceAnswer, RateAnswer, invoice, rate};
+use item_find::find_item;
+use rate_card::{invoice, rate};
 
 // Which item of a list holds a key: 1 and its index, or twice 0 (02 §8.3).
 #[unsafe(no_mangle)]
@@ -23,15 +23,15 @@ pub extern "C" fn fernsponge_find_item(
     ensures found_after { found.new ≡ left found_numbers (found_answer pool.now words.now key.now) found.old }
 {
     match find_item(pool, words, key) {
-        FoundAnswer::At(i) => {
+        Ok(Some(i)) => {
             *found = [1, i as u64];
             0
         }
-        FoundAnswer::Nowhere => {
+        Ok(None) => {
             *found = [0, 0];
             0
         }
-        FoundAnswer::Refused(refusal) => refusal_number(refusal),
+        Err(refusal) => refusal_number(refusal),
     }
 }
 
@@ -58,17 +58,17 @@ pub extern "C" fn fernsponge_rate(
     ensures amount_after { amount.new ≡ left amount_of (rate_answer pool.now words.now amounts.now key.now) amount.old }
 {
     match rate(pool, words, amounts, key) {
-        RateAnswer::Amount(a) => {
+        Ok(Some(a)) => {
             *has = 1;
             *amount = a;
             0
         }
-        RateAnswer::NoRate => {
+        Ok(None) => {
             *has = 0;
             *amount = 0;
             0
         }
-        RateAnswer::Refused(refusal) => refusal_number(refusal),
+        Err(refusal) => refusal_number(refusal),
     }
 }
 
@@ -89,14 +89,12 @@ pub extern "C" fn fernsponge_invoice(
     ensures cents_after { cents.new ≡ left cents_in (invoice_answer pool.now words.now amounts.now keys.now) cents.old }
 {
     match invoice(pool, words, amounts, keys) {
-        InvoiceAnswer::Invoice(totals) => {
-            let exact = totals.sum;
-            let rounded = totals.cents;
-            *sum = exact;
+        Ok(totals) => {
+            *sum = totals.sum;
             *without = totals.without as u64;
-            *cents = rounded;
+            *cents = totals.cents;
             0
         }
-        InvoiceAnswer::Refused(refusal) => refusal_number(refusal),
+        Err(refusal) => refusal_number(refusal),
     }
 }

@@ -2,7 +2,6 @@
 ghost use Rattle.fernsponge.specs.Collecting.{GivesCollected};
 
 use crate::numbers::refusal_number;
-use pool_collect::Collected;
 
 // Packs the keys that two lists name to the front of a fresh pool, rewrites the lists' offsets, and tells how many bytes are used (02 §6.5, §6.8).
 #[unsafe(no_mangle)]
@@ -17,10 +16,10 @@ pub extern "C" fn fernsponge_collect(
         result fresh.new ours.new theirs.new used.new }
 {
     match pool_collect::collect(pool, fresh, ours, theirs) {
-        Collected::Used(n) => {
+        Ok(n) => {
             *used = n as u64;
             0
         }
-        Collected::Refused(refusal) => refusal_number(refusal),
+        Err(refusal) => refusal_number(refusal),
     }
 }

@@ -5,7 +5,6 @@ ghost use Rattle.insert.specs.Answers.{insert_answer, insert_words};
 ghost use Rattle.fernsponge.specs.Answers.{returned, left, itself};
 
 use crate::numbers::refusal_number;
-use insert::Inserted;
 use item_words::{ITEM_SIZE, item_at};
 
 // Inserts an item into the list of the first count items of words, and tells the new count (01 m5.9).
@@ -22,10 +21,10 @@ pub extern "C" fn fernsponge_insert_item(
     ensures after_after { after.new ≡ left itself (insert_answer pool.now words.old count (item_at item.now 0)) after.old }
 {
     match insert::insert_item(pool, words, count, item_at(item, 0)) {
-        Inserted::Count(n) => {
+        Ok(n) => {
             *after = n as u64;
             0
         }
-        Inserted::Refused(refusal) => refusal_number(refusal),
+        Err(refusal) => refusal_number(refusal),
     }
 }

@@ -5,7 +5,7 @@ ghost use Rattle.std.specs.Prelude.{◌≡◌};
 ghost use Rattle.query_item.specs.Items.{item_at};
 ghost use Rattle.item_check.specs.Checks.{check_verdict};
 ghost use Rattle.range_borrowed.specs.Kinds.{kind_number};
-ghost use Rattle.item_ask.specs.Calls.{item_answer_of, to_range_set_answer, containment_answer, direction_answer};
+ghost use Rattle.item_ask.specs.Calls.{to_range_set_answer, containment_answer, direction_answer};
 ghost use Rattle.key_order.specs.Order.{order_number};
 ghost use Rattle.fernsponge.specs.Answers.{bool_number, set_numbers, set_words_in, maybe_numbers, containment_numbers, returned, left};
 ghost use Rattle.fernsponge.specs.Calls.{compare_answer, invert_answer, between_answer, direction_of_flag};
@@ -14,14 +14,11 @@ use crate::numbers::{
     MALFORMED, MAYBE_SIZE, SET_SIZE, bool_number, containment_numbers, is_kind, is_malformed_set,
     maybe_numbers, order_number, refusal_number, set_numbers, set_of_words, set_words,
 };
-use boundary::{compare_boundaries, invert};
-use item_ask::{
-    Containment, InDirection, ItemAnswer, RangeAnswer, could_contain_key,
-    could_have_items_in_direction, to_query_item, to_range_set,
-};
-use item_check::{Checked, check_list};
+use boundary::compare_boundaries;
+use item_ask::{could_contain_key, could_have_items_in_direction, to_query_item, to_range_set};
+use item_check::{Refusal, check_list};
 use item_words::{ITEM_SIZE, item_at};
-use query_item::MaybeItem;
+use query_item::QueryItem;
 use range_borrowed::{Direction, kind_number, kind_numbered};
 
 // How a boundary of one kind at the key a stands to one of another at b: 0 less, 1 equal, 2 greater (01 m2.1).
@@ -55,7 +52,7 @@ pub extern "C" fn fernsponge_invert(kind: u32, is_start: bool, inverted: &mut u3
     ensures inverted_after { inverted.new ≡ left kind_number (invert_answer kind is_start) inverted.old }
 {
     if is_kind(kind) {
-        *inverted = kind_number(invert(kind_numbered(kind), is_start));
+        *inverted = kind_number(kind_numbered(kind).invert(is_start));
         return 0;
     }
     MALFORMED
@@ -72,11 +69,11 @@ pub extern "C" fn fernsponge_to_range_set(
     ensures range_after { range.new ≡ left set_numbers (to_range_set_answer pool.now (item_at item.now 0)) range.old }
 {
     match to_range_set(pool, item_at(item, 0)) {
-        RangeAnswer::Range(set) => {
+        Ok(set) => {
             *range = set_numbers(set);
             0
         }
-        RangeAnswer::Refused(refusal) => refusal_number(refusal),
+        Err(refusal) => refusal_number(refusal),
     }
 }
 
@@ -97,20 +94,16 @@ pub extern "C" fn fernsponge_to_query_item(
     give_item(to_query_item(pool, set_of_words(words)), item)
 }
 
-fn give_item(answer: ItemAnswer, item: &mut [u32; MAYBE_SIZE]) -> u64
-    ensures value { result ≡ returned (item_answer_of answer) }
-    ensures item_after { item.new ≡ left maybe_numbers (item_answer_of answer) item.old }
+fn give_item(answer: Result<Option<QueryItem>, Refusal>, item: &mut [u32; MAYBE_SIZE]) -> u64
+    ensures value { result ≡ returned answer }
+    ensures item_after { item.new ≡ left maybe_numbers answer item.old }
 {
     match answer {
-        ItemAnswer::NoItem => {
-            *item = maybe_numbers(MaybeItem::NoItem);
+        Ok(found) => {
+            *item = maybe_numbers(found);
             0
         }
-        ItemAnswer::Item(q) => {
-            *item = maybe_numbers(MaybeItem::Item(q));
-            0
-        }
-        ItemAnswer::Refused(refusal) => refusal_number(refusal),
+        Err(refusal) => refusal_number(refusal),
     }
 }
 
@@ -126,11 +119,11 @@ pub extern "C" fn fernsponge_could_contain_key<'a>(
     ensures held_after { held.new ≡ left containment_numbers (containment_answer pool.now (item_at item.now 0) key.now) held.old }
 {
     match could_contain_key(pool, item_at(item, 0), key) {
-        Containment::Contains(c) => {
+        Ok(c) => {
             *held = containment_numbers(c);
             0
         }
-        Containment::Refused(refusal) => refusal_number(refusal),
+        Err(refusal) => refusal_number(refusal),
     }
 }
 
@@ -147,11 +140,11 @@ pub extern "C" fn fernsponge_could_have_items_in_direction<'a>(
     ensures yes_after { yes.new ≡ left bool_number (direction_answer pool.now (item_at item.now 0) key.now (direction_of_flag to_left)) yes.old }
 {
     match could_have_items_in_direction(pool, item_at(item, 0), key, direction(to_left)) {
-        InDirection::Answered(answer) => {
+        Ok(answer) => {
             *yes = bool_number(answer);
             0
         }
-        InDirection::Refused(refusal) => refusal_number(refusal),
+        Err(refusal) => refusal_number(refusal),
     }
 }
 
@@ -161,8 +154,8 @@ pub extern "C" fn fernsponge_check_list(pool: &[u8], words: &[u32], theirs: bool
     ensures { result ≡ returned (check_verdict pool.now words.now (bool_number theirs)) }
 {
     match check_list(pool, words, bool_number(theirs)) {
-        Checked::Accepted => 0,
-        Checked::Refused(refusal) => refusal_number(refusal),
+        Ok(()) => 0,
+        Err(refusal) => refusal_number(refusal),
     }
 }
 

@@ -24,12 +24,14 @@ pub mod stored;
 ghost use Rattle.std.specs.Prelude.{◌≡◌};
 ghost use Rattle.key_order.specs.Order.{compare_keys, order_number, smaller};
 
+use crate::numbers::order_number;
+
 // How a stands to b: 0 less, 1 equal, 2 greater (01 m1.1).
 #[unsafe(no_mangle)]
 pub extern "C" fn fernsponge_compare(a: &[u8], b: &[u8]) -> u64
     ensures { result ≡ order_number (compare_keys a.now b.now) }
 {
-    key_order::stand(a, b)
+    u64::from(order_number(key_order::compare(a, b)))
 }
 
 // Writes the smaller of a and b into part, and b on a tie: the lent bytes themselves. An exported function can't return them (01 m1.3).

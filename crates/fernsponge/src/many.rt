@@ -2,7 +2,7 @@
 ghost use Rattle.fernsponge.specs.Intersect.{GivesMany};
 
 use crate::numbers::refusal_number;
-use intersect_many::{ManyAnswer, intersect_many_ordered};
+use intersect_many::intersect_many_ordered;
 
 // What two lists share, what ours keeps without theirs, and what theirs keeps without ours, as items at the front of shared_out, ours_out
 // and theirs_out, and how many items each of these has, as three numbers (01 m4.1, m4.2, m4.3).
@@ -21,10 +21,10 @@ pub extern "C" fn fernsponge_intersect_many(
         result shared_out.new ours_out.new theirs_out.new counts.new }
 {
     match intersect_many_ordered(pool, ours, theirs, shared_out, ours_out, theirs_out) {
-        ManyAnswer::Counts(n) => {
+        Ok(n) => {
             *counts = [n.shared as u64, n.ours as u64, n.theirs as u64];
             0
         }
-        ManyAnswer::Refused(refusal) => refusal_number(refusal),
+        Err(refusal) => refusal_number(refusal),
     }
 }

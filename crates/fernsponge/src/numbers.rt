@@ -7,10 +7,9 @@ ghost use Rattle.fernsponge.specs.Calls.{malformed_set};
 
 use item_check::{Refusal, is_nonzero};
 use item_words::{ITEM_SIZE, words_of};
-use key_order::{Ordering, least};
-use query_item::pooled::{key_of, kind_of, with_key};
-use query_item::{ItemWords, KeyAt, MaybeItem, RangeSet};
+use query_item::{ItemWords, KeyAt, QueryItem, RangeSet, RangeSetItem};
 use range_borrowed::{KeyContainmentResult, kind_number, kind_numbered};
+use std::cmp::Ordering;
 
 // Input that is malformed: number 1, side 0, index 0.
 pub(crate) const MALFORMED: u64 = 1;
@@ -21,6 +20,7 @@ pub(crate) const MAYBE_SIZE: usize = ITEM_SIZE + 1;
 // What a greater index is told as, so that a refusal's number fits 64 bits.
 const MOST_INDEX: usize = 1099511627776;
 
+// The C interface has numbers for an order: 0, 1, 2; std's enum casts to -1, 0, 1.
 pub(crate) fn order_number(o: Ordering) -> u32
     ensures { result ≡ order_number o }
 {
@@ -31,10 +31,11 @@ pub(crate) fn order_number(o: Ordering) -> u32
     }
 }
 
+// The C interface has 0 and 1 for a no and a yes. Named, since closures and laws hand it on.
 pub(crate) fn bool_number(b: bool) -> u32
     ensures { result ≡ bool_number b }
 {
-    if b { 1 } else { 0 }
+    u32::from(b)
 }
 
 pub(crate) fn is_kind(n: u32) -> bool
@@ -52,8 +53,8 @@ fn is_unbounded(n: u32) -> bool
 pub(crate) fn refusal_number(refusal: Refusal) -> u64
     ensures { result ≡ refusal_number refusal }
 {
-    let index = least(refusal.index, MOST_INDEX);
-    refusal.number as u64 + 256 * refusal.side as u64 + 65536 * index as u64
+    let index = refusal.index.min(MOST_INDEX) as u64;
+    u64::from(refusal.number) + 256 * u64::from(refusal.side) + 65536 * index
 }
 
 // ---- two boundaries, as six words
@@ -73,13 +74,11 @@ pub(crate) struct SetWords {
 pub(crate) fn set_numbers(set: RangeSet) -> [u32; SET_SIZE]
     ensures { result ≡ set_numbers set }
 {
-    let from = set.start;
-    let to = set.end;
-    let start = key_of(from);
-    let end = key_of(to);
+    let start = set.start.key();
+    let end = set.end.key();
     [
-        kind_number(kind_of(from)),
-        kind_number(kind_of(to)),
+        kind_number(set.start.kind()),
+        kind_number(set.end.kind()),
         start.offset,
         start.length,
         end.offset,
@@ -110,32 +109,29 @@ pub(crate) fn set_words(numbers: &[u32; SET_SIZE]) -> SetWords
 pub(crate) fn is_malformed_set(words: SetWords) -> bool
     ensures { result ≡ malformed_set words }
 {
-    let a = words.start;
-    let b = words.end;
     !is_kind(words.from)
         | !is_kind(words.to)
-        | (is_unbounded(words.from) & is_nonzero(a))
-        | (is_unbounded(words.to) & is_nonzero(b))
+        | (is_unbounded(words.from) & is_nonzero(words.start))
+        | (is_unbounded(words.to) & is_nonzero(words.end))
 }
 
 pub(crate) fn set_of_words(words: SetWords) -> RangeSet
     ensures { result ≡ set_of_words words }
 {
-    let a = words.start;
-    let b = words.end;
-    let start = with_key(kind_numbered(words.from), a);
-    let end = with_key(kind_numbered(words.to), b);
-    RangeSet { start, end }
+    RangeSet {
+        start: RangeSetItem::with_key(kind_numbered(words.from), words.start),
+        end: RangeSetItem::with_key(kind_numbered(words.to), words.end),
+    }
 }
 
 // ---- an item that may be missing, as seven words
 
-pub(crate) fn maybe_numbers(maybe: MaybeItem) -> [u32; MAYBE_SIZE]
+pub(crate) fn maybe_numbers(maybe: Option<QueryItem>) -> [u32; MAYBE_SIZE]
     ensures { result ≡ maybe_numbers maybe }
 {
     match maybe {
-        MaybeItem::NoItem => [0; MAYBE_SIZE],
-        MaybeItem::Item(q) => one_item(words_of(0, q)),
+        None => [0; MAYBE_SIZE],
+        Some(q) => one_item(words_of(0, q)),
     }
 }
 

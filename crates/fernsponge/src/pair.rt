@@ -4,7 +4,6 @@ ghost use Rattle.intersect.specs.Pair.{pair_answer};
 ghost use Rattle.fernsponge.specs.Intersect.{GivesPair};
 
 use crate::numbers::{MAYBE_SIZE, maybe_numbers, refusal_number};
-use intersect::PairAnswer;
 use intersect::pair::intersect_items;
 use item_words::{ITEM_SIZE, item_at};
 
@@ -25,7 +24,7 @@ pub extern "C" fn fernsponge_intersect_items(
         result in_both.new ours_left.new ours_right.new theirs_left.new theirs_right.new }
 {
     match intersect_items(pool, item_at(ours, 0), item_at(theirs, 0)) {
-        PairAnswer::Pair(parts) => {
+        Ok(parts) => {
             let shared = parts.in_both;
             let a = parts.ours_left;
             let b = parts.ours_right;
@@ -38,6 +37,6 @@ pub extern "C" fn fernsponge_intersect_items(
             *theirs_right = maybe_numbers(d);
             0
         }
-        PairAnswer::Refused(refusal) => refusal_number(refusal),
+        Err(refusal) => refusal_number(refusal),
     }
 }

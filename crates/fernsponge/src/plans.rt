@@ -7,7 +7,6 @@ ghost use Rattle.fernsponge.specs.Plans.{GivesPlan};
 use crate::numbers::refusal_number;
 use crate::positions::give_yes;
 use position_given::RowCount;
-use position_plan::Planned;
 
 // Writes the windows for the missing rows, of at most `most` rows each, as the first pairs of out, and tells how many they are (02 §9.7, §9.9).
 #[unsafe(no_mangle)]
@@ -21,11 +20,11 @@ pub extern "C" fn fernsponge_plan_refetch(
     ensures { GivesPlan intervals.now proved.now most out.old windows.old result out.new windows.new }
 {
     match position_plan::windows::plan_refetch(intervals, proved, RowCount(most), out) {
-        Planned::Windows(n) => {
+        Ok(n) => {
             *windows = n as u64;
             0
         }
-        Planned::Refused(refusal) => refusal_number(refusal),
+        Err(refusal) => refusal_number(refusal),
     }
 }
 

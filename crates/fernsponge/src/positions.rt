@@ -1,9 +1,9 @@
 // Module 6. Intervals are pairs of words, and a report is three parts: the total, how many examples it has, and the places for them.
-ghost use Rattle.std.specs.Prelude.{◌≡◌, [], length};
+ghost use Rattle.std.specs.Prelude.{◌≡◌, [], length, Ok};
 ghost use Rattle.intervals.specs.Intervals.{holds};
-ghost use Rattle.item_check.specs.Checks.{answered, accepted};
+ghost use Rattle.item_check.specs.Checks.{accepted};
 ghost use Rattle.position_given.specs.Given.{intervals_of, intervals_verdict};
-ghost use Rattle.position_intervals.specs.Asked.{contains_answer, len_answer, is_empty_answer, yes_or_no_of};
+ghost use Rattle.position_intervals.specs.Asked.{contains_answer, len_answer, is_empty_answer};
 ghost use Rattle.position_key.specs.Keys.{position_answer};
 ghost use Rattle.position_report.specs.Reports.{report_at, report_of};
 ghost use Rattle.position_mismatch.specs.Reports.{compared_of, missing_answer, extra_answer, spans_answer};
@@ -14,17 +14,11 @@ ghost use Rattle.fernsponge.specs.Positions.{GivesReport, GivesPairs};
 
 use crate::numbers::{bool_number, refusal_number};
 use crate::stored::give_stored;
-use item_check::Checked;
-use position_describe::Described;
-use position_given::{Length, LogPosition, RowCount};
-use position_intervals::YesOrNo;
-use position_key::PositionKey;
+use item_check::Refusal;
+use position_given::{LogPosition, RowCount};
 use position_mismatch::Compared;
 use position_report::PositionMismatch;
 use position_spans::Span;
-
-// A key that is no position: number 7, side 0, index 0.
-const NO_POSITION: u64 = 7;
 
 // The position of a key (01 m6.2).
 #[unsafe(no_mangle)]
@@ -32,11 +26,13 @@ pub extern "C" fn fernsponge_be_u64(key: &[u8], position: &mut u64) -> u64
     ensures value { result ≡ returned (position_answer key.now) }
     ensures position_after { position.new ≡ left itself (position_answer key.now) position.old }
 {
-    let PositionKey::At(p) = position_key::be_u64(key) else {
-        return NO_POSITION;
-    };
-    *position = p.0;
-    0
+    match position_key::be_u64(key) {
+        Ok(p) => {
+            *position = p.0;
+            0
+        }
+        Err(refusal) => refusal_number(refusal),
+    }
 }
 
 // Writes the positions below count that items cover, as canonical pairs at the front of out, and tells how many pairs they are and how many rows
@@ -88,11 +84,11 @@ pub extern "C" fn fernsponge_len(intervals: &[u64], rows: &mut u64) -> u64
     ensures rows_after { rows.new ≡ left itself (len_answer intervals.now) rows.old }
 {
     match position_intervals::ask::len(intervals) {
-        Length::Rows(n) => {
+        Ok(n) => {
             *rows = n.0;
             0
         }
-        Length::Refused(refusal) => refusal_number(refusal),
+        Err(refusal) => refusal_number(refusal),
     }
 }
 
@@ -105,16 +101,16 @@ pub extern "C" fn fernsponge_is_empty(intervals: &[u64], yes: &mut u32) -> u64
     give_yes(position_intervals::ask::is_empty(intervals), yes)
 }
 
-pub(crate) fn give_yes(answer: YesOrNo, yes: &mut u32) -> u64
-    ensures value { result ≡ returned (yes_or_no_of answer) }
-    ensures yes_after { yes.new ≡ left bool_number (yes_or_no_of answer) yes.old }
+pub(crate) fn give_yes(answer: Result<bool, Refusal>, yes: &mut u32) -> u64
+    ensures value { result ≡ returned answer }
+    ensures yes_after { yes.new ≡ left bool_number answer yes.old }
 {
     match answer {
-        YesOrNo::Is(b) => {
+        Ok(b) => {
             *yes = bool_number(b);
             0
         }
-        YesOrNo::Refused(refusal) => refusal_number(refusal),
+        Err(refusal) => refusal_number(refusal),
     }
 }
 
@@ -125,12 +121,12 @@ pub extern "C" fn fernsponge_empty_report(
     count: &mut u64,
     examples: &mut [u64; PositionMismatch::MAX_REPORTED_POSITIONS],
 ) -> u64
-    ensures { GivesReport (answered (report_of [])) total.old count.old examples.old result
+    ensures { GivesReport (Ok (report_of [])) total.old count.old examples.old result
         total.new count.new examples.new }
 {
     let report = PositionMismatch::empty();
     let compared = Compared {
-        checked: Checked::Accepted,
+        checked: Ok(()),
         report,
     };
     give_report(compared, total, count, examples)
@@ -208,14 +204,14 @@ fn give_report(
     let checked = compared.checked;
     let report = compared.report;
     match checked {
-        Checked::Accepted => {
+        Ok(()) => {
             *total = report.total.0;
             *count = report.count as u64;
             let shown = report.examples;
             *examples = shown;
             0
         }
-        Checked::Refused(refusal) => refusal_number(refusal),
+        Err(refusal) => refusal_number(refusal),
     }
 }
 
@@ -241,10 +237,10 @@ pub extern "C" fn fernsponge_describe(
         examples: shown,
     };
     match position_describe::describe(report, out) {
-        Described::Bytes(n) => {
+        Ok(n) => {
             *written = n as u64;
             0
         }
-        Described::Refused(refusal) => refusal_number(refusal),
+        Err(refusal) => refusal_number(refusal),
     }
 }

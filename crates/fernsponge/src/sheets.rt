@@ -6,8 +6,6 @@ ghost use Rattle.fernsponge.specs.Answers.{returned, left, itself};
 ghost use Rattle.fernsponge.specs.Sheets.{items_read, bytes_read};
 
 use crate::numbers::refusal_number;
-use sheet_read::SheetAnswer;
-use sheet_write::SheetWritten;
 
 // Packs the keys of a sheet to the front of a pool, writes its items to the front of a list, and tells how many items and bytes these are (02 §1.8,
 // §1.9, §1.11, §1.13).
@@ -26,12 +24,12 @@ pub extern "C" fn fernsponge_read_sheet(
     ensures bytes_after { bytes.new ≡ left bytes_read (read_answer text.now pool.old out.old) bytes.old }
 {
     match sheet_read::read_sheet(text, pool, out) {
-        SheetAnswer::Read(n) => {
+        Ok(n) => {
             *items = n.items as u64;
             *bytes = n.bytes as u64;
             0
         }
-        SheetAnswer::Refused(refusal) => refusal_number(refusal),
+        Err(refusal) => refusal_number(refusal),
     }
 }
 
@@ -48,10 +46,10 @@ pub extern "C" fn fernsponge_write_sheet(
     ensures bytes_after { bytes.new ≡ left itself (write_answer pool.now words.now text.old) bytes.old }
 {
     match sheet_write::write_sheet(pool, words, text) {
-        SheetWritten::Bytes(n) => {
+        Ok(n) => {
             *bytes = n as u64;
             0
         }
-        SheetWritten::Refused(refusal) => refusal_number(refusal),
+        Err(refusal) => refusal_number(refusal),
     }
 }

@@ -6,7 +6,8 @@ ghost use Rattle.fernsponge.specs.Answers.{returned, left, itself};
 ghost use Rattle.fernsponge.specs.Positions.{pairs_in, rows_in};
 
 use crate::numbers::refusal_number;
-use position_given::{Length, LogPosition, RowCount, Stored};
+use item_check::Refusal;
+use position_given::{LogPosition, RowCount, Stored};
 use position_stored::change::{cover, uncover};
 use position_stored::total::stored_total;
 
@@ -22,11 +23,11 @@ pub extern "C" fn fernsponge_stored_total(
     ensures rows_after { rows.new ≡ left itself (total_answer words.now pairs total) rows.old }
 {
     match stored_total(words, pairs, RowCount(total)) {
-        Length::Rows(n) => {
+        Ok(n) => {
             *rows = n.0;
             0
         }
-        Length::Refused(refusal) => refusal_number(refusal),
+        Err(refusal) => refusal_number(refusal),
     }
 }
 
@@ -89,17 +90,17 @@ pub extern "C" fn fernsponge_uncover(
 }
 
 // Tells what a stored list has: its number of pairs and its total have a place each.
-pub(crate) fn give_stored(answer: Stored, pairs: &mut u64, total: &mut u64) -> u64
+pub(crate) fn give_stored(answer: Result<Stored, Refusal>, pairs: &mut u64, total: &mut u64) -> u64
     ensures value { result ≡ returned (stored_of answer) }
     ensures pairs_after { pairs.new ≡ left pairs_in (stored_of answer) pairs.old }
     ensures total_after { total.new ≡ left rows_in (stored_of answer) total.old }
 {
     match answer {
-        Stored::Pairs(n, rows) => {
-            *pairs = n as u64;
-            *total = rows.0;
+        Ok(stored) => {
+            *pairs = stored.pairs as u64;
+            *total = stored.rows.0;
             0
         }
-        Stored::Refused(refusal) => refusal_number(refusal),
+        Err(refusal) => refusal_number(refusal),
     }
 }

@@ -1,5 +1,6 @@
 -- What a call that answers has checked, and what it leaves: a buffer as long as before with the list at its front, which the next call accepts.
 -- Assumes nothing.
+use Rattle.std.specs.Prelude.{Ok}
 use Prim.Native.Nat.{ℕ, ◌/◌, ◌≤◌}
 use mathlib.Core.Path.{◌≡◌, sym}
 use mathlib.Core.Bool.{Bool, true, false, cond, ◌||◌}
@@ -11,7 +12,7 @@ use borrow.Author.Tests.{ltb-false, le-ltb}
 use Rattle.key_order.proofs.Impossible.{impossible}
 use Rattle.query_item.specs.declared.ItemWords.{ItemWords}
 use Rattle.query_item.specs.Items.{item_size, items_from}
-use Rattle.item_check.specs.Checks.{Answer, answered, refused, accepted, most_items, upright_fault}
+use Rattle.item_check.specs.Checks.{Answer, refused, accepted, most_items, upright_fault}
 use Rattle.item_check.proofs.Laws.{answers, words_answered}
 use Rattle.item_lists.proofs.Written.{length_flat}
 use Rattle.insert_order.specs.Refusals.{input_verdict}
@@ -22,14 +23,14 @@ use Rattle.insert.proofs.Laws.{insert_accepted, laid_items}
 
 -- ---- the room
 
-pub room_enough : (ws : List ℕ) (n : ℕ) → n ≤ length ws / item_size → n ≤ most_items → insert_room_answer ws n ≡ answered n
+pub room_enough : (ws : List ℕ) (n : ℕ) → n ≤ length ws / item_size → n ≤ most_items → insert_room_answer ws n ≡ Ok n
 room_enough ws n h l = rw (le-ltb (length ws / item_size) n h, le-ltb most_items n l)
 
-room_passed : (ws : List ℕ) (m n : ℕ) → insert_room_answer ws m ≡ answered n → (m ≡ n) × (m ≤ length ws / item_size) × (m ≤ most_items)
+room_passed : (ws : List ℕ) (m n : ℕ) → insert_room_answer ws m ≡ Ok n → (m ≡ n) × (m ≤ length ws / item_size) × (m ≤ most_items)
 room_passed ws m n e = go (ltb (length ws / item_size) m) (ltb most_items m) (ltb-false (length ws / item_size) m) (ltb-false most_items m) e
   where
     go : (s t : Bool) → (s ≡ false → m ≤ length ws / item_size) → (t ≡ false → m ≤ most_items)
-        → ◌≡◌ {A = Answer ℕ} (cond (s || t) (refused 6 0 0) (answered m)) (answered n) → (m ≡ n) × (m ≤ length ws / item_size) × (m ≤ most_items)
+        → ◌≡◌ {A = Answer ℕ} (cond (s || t) (refused 6 0 0) (Ok m)) (Ok n) → (m ≡ n) × (m ≤ length ws / item_size) × (m ≤ most_items)
     go true t p q f = impossible cc
     go false true p q f = impossible cc
     go false false p q f = (cc, p cc, q cc)
@@ -48,11 +49,11 @@ ready_answer pool ws count new r u = rw (r.small, r.within, r.listed, u)
 
 -- ---- a call that answers
 
-module _ (pool ws : List ℕ) (count : ℕ) (new : ItemWords) (n : ℕ) (e : insert_answer pool ws count new ≡ answered n) where
+module _ (pool ws : List ℕ) (count : ℕ) (new : ItemWords) (n : ℕ) (e : insert_answer pool ws count new ≡ Ok n) where
   abbrev after : List ItemWords
   after = list_after pool ws count new
 
-  passed : (input_verdict pool ws count new ≡ accepted) × (checked_answer pool ws count new ≡ answered n)
+  passed : (input_verdict pool ws count new ≡ accepted) × (checked_answer pool ws count new ≡ Ok n)
   passed = answers (input_verdict pool ws count new) (checked_answer pool ws count new) n e
 
   room : (length after ≡ n) × (length after ≤ length ws / item_size) × (length after ≤ most_items)

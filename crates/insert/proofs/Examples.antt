@@ -1,5 +1,6 @@
 -- Worked examples of the readings, and of insertions in either order, by computation. The pool has the keys 01, 03, 05, 09, 02, 04 and 05 again, at the offsets 0 to 6.
 -- Assumes nothing.
+use Rattle.std.specs.Prelude.{Ok}
 use Prim.Native.Nat.{ℕ}
 use mathlib.Core.Path.{◌≡◌, refl}
 use mathlib.Core.List.{List, [], ◌∷◌, ◌++◌}
@@ -8,7 +9,7 @@ use Rattle.key_order.specs.Boundary.{compare_boundaries}
 use Rattle.query_item.specs.declared.KeyAt.{KeyAt}
 use Rattle.query_item.specs.declared.ItemWords.{ItemWords}
 use Rattle.query_item.specs.Items.{key_at, absent, item_words, item_at, items_from, flat, flat_all}
-use Rattle.item_check.specs.Checks.{answered, refused, first_bad}
+use Rattle.item_check.specs.Checks.{refused, first_bad}
 use Rattle.insert_order.specs.Order.{compare_items, same_item, ends_below, clashes}
 use Rattle.insert_order.specs.Refusals.{first_clash}
 use Rattle.insert_merge.specs.Merge.{fate_of, staying, merged, merged_with}
@@ -110,7 +111,7 @@ offsets_differ = (refl, refl)
 
 -- 02 §10.1: there has to be room in both orders: beside the empty key, with a place for one item, RangeFull and then all past that key fit, as
 -- they merge; the other way round the first is refused, and the second not tried
-room_differs : (insert_all_answer [] one 1 (all 0 ∷ past ∷ []) ≡ answered 1) × (insert_all_answer [] one 1 (past ∷ all 0 ∷ []) ≡ refused 6 0 0)
+room_differs : (insert_all_answer [] one 1 (all 0 ∷ past ∷ []) ≡ Ok 1) × (insert_all_answer [] one 1 (past ∷ all 0 ∷ []) ≡ refused 6 0 0)
     × (insert_all_words [] one 1 (past ∷ all 0 ∷ []) ≡ one)
 unfolding insert_all_answer insert_all_words inserted staying merged_with merged placed fate_of compare_items same_item ends_below clashes first_clash first_bad laid
     flat_all item_at items_from compare_boundaries compare_keys compare_numbers

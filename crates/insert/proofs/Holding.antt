@@ -1,5 +1,6 @@
 -- Which keys a list holds after insertion: an item holds a key where the key's rank lies between those of its start and its end, and what
 -- merges holds what each of its items held, no more. Ranks are taken at the sizes of pool and key together. Assumes nothing.
+use Rattle.std.specs.Ordering.{is_lt}
 use Prim.Native.Nat.{ℕ, ◌+◌, ◌≤◌, ◌<◌, min, max}
 use mathlib.Core.Path.{◌≡◌, refl, sym, ap, ◌∙◌}
 use mathlib.Core.Bool.{Bool, true, false, cond, ◌||◌, ◌&&◌}
@@ -8,7 +9,6 @@ use native.Mathlib.Omega.{arith}
 use native.Mathlib.Decide.{dec_le}
 use lib.Dec.{leb}
 use borrow.Author.Tests.{le-leb, lt-leb}
-use Rattle.key_order.specs.Order.{is_less}
 use Rattle.key_order.proofs.Line.{size}
 use Rattle.key_order.proofs.Ranks.{key_rank, between_rank}
 use Rattle.query_item.specs.declared.ItemWords.{ItemWords}
@@ -157,7 +157,7 @@ module _ (pool k : List ℕ) where
   holds_placed : (result : ItemWords) (its : List ItemWords) → holds_any pool (placed pool result its) k ≡ held result || holds_any pool its k
   unfolding placed holds_any
   holds_placed result [] = refl
-  holds_placed result (it ∷ its) = go (is_less (compare_items pool it result)) (holds_placed result its)
+  holds_placed result (it ∷ its) = go (is_lt (compare_items pool it result)) (holds_placed result its)
     where
       go : (t : Bool) → holds_any pool (placed pool result its) k ≡ held result || holds_any pool its k
           → holds_any pool (cond t (it ∷ placed pool result its) (result ∷ it ∷ its)) k ≡ held result || (held it || holds_any pool its k)

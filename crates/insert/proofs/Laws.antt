@@ -1,22 +1,19 @@
 -- The laws of insertion, each stated once. Assumes nothing.
+use Rattle.std.specs.declared.cmp.Ordering.TheVariants.{Equal}
+use Rattle.std.specs.Ordering.{is_lt}
 use Prim.Native.Nat.{ℕ, suc, ◌-◌, ◌*◌, max}
 use mathlib.Core.Path.{◌≡◌, refl, ap}
 use mathlib.Core.Bool.{Bool, true, false, cond, ◌||◌, ◌&&◌}
 use mathlib.Core.Logic.{inl, inr}
 use mathlib.Core.List.{List, [], ◌∷◌, ◌++◌}
 use lib.ListN.{length, take, drop, replicate}
-use Rattle.key_order.specs.declared.Ordering.TheVariants.{Equal}
-use Rattle.key_order.specs.Order.{is_less}
 use Rattle.query_item.specs.declared.ItemWords.{ItemWords}
 use Rattle.query_item.specs.Items.{item_size, items_from, shown, SameShown, holds, query_item, holds_any}
 use Rattle.item_check.specs.Checks.{accepted, upright_fault}
-use Rattle.item_check.proofs.Laws.{refused_apart}
 use Rattle.insert_order.specs.Order.{compare_items, plain, same_item}
 use Rattle.insert_order.specs.Refusals.{order_verdict, ordered_verdict}
 use Rattle.insert_order.proofs.Ordered.{Among}
 use Rattle.insert_order.proofs.Accepted.{accepted_sorted, upright_ranks}
-use Rattle.insert.specs.declared.Inserted.{Inserted}
-use Rattle.insert.specs.declared.Inserted.TheVariants.{Count, Refused}
 use Rattle.insert_merge.specs.declared.Fate.TheVariants.{Stays}
 use Rattle.insert_merge.specs.Merge.{fate_of, staying, merged_with}
 use Rattle.insert_merge.proofs.Merged.{merged_none}
@@ -24,7 +21,7 @@ use Rattle.insert_merge.proofs.Staying.{merges_gone, staying_keeps, staying_all,
 use Rattle.insert_merge.proofs.Converted.{result_shown}
 use Rattle.insert.specs.Insertion.{placed, inserted}
 use Rattle.insert.specs.Sequence.{StandsBefore}
-use Rattle.insert.specs.Answers.{inserted_of, laid}
+use Rattle.insert.specs.Answers.{laid}
 use Rattle.insert.specs.Passes.{first_changed}
 use Rattle.item_lists.proofs.Read.{items_read_lem}
 use Rattle.insert.proofs.Accepted.{list_inserted}
@@ -32,15 +29,6 @@ use Rattle.insert.proofs.Holding.{holds_inserted}
 use Rattle.insert.proofs.Ordered.{order_inserted}
 use Rattle.insert.proofs.Placed.{Divides, placed_between, divides_before, placed_before, staying_before, placed_shown}
 use Rattle.insert.proofs.Either.{either_shown}
-
--- ---- the answer
-
--- the numbers that an answer stands for tell any two answers apart (01 tight.1)
-pub inserted_apart : (r s : Inserted) → inserted_of r ≡ inserted_of s → r ≡ s
-inserted_apart (Count m) (Count n) e = cc
-inserted_apart (Count m) (Refused s) e = cc
-inserted_apart (Refused r) (Count n) e = cc
-inserted_apart (Refused r) (Refused s) e = ap Refused (refused_apart r s e)
 
 -- ---- the list
 
@@ -79,7 +67,7 @@ pub insert_arrival : (pool : List ℕ) (new it : ItemWords) (its : List ItemWord
 unfolding fate_of
 insert_arrival pool new it its a m n w e =
     divides_before pool (merged_with pool new new its) (staying pool new its) (inserted pool new its) (insert_between pool new its a) it
-    (staying_keeps pool new its it m (rw (n, w))) (ap is_less e)
+    (staying_keeps pool new its it m (rw (n, w))) (ap is_lt e)
 
 -- 02 §10.2: and an insertion after which both stay keeps the order of two items
 pub insert_keeps : (pool : List ℕ) (new x y : ItemWords) (its : List ItemWords) → fate_of pool new x ≡ Stays → fate_of pool new y ≡ Stays
@@ -110,7 +98,7 @@ module _ (pool : List ℕ) (new : ItemWords) where
       → placed pool new its ≡ take (first_changed pool new new its) its ++ (new ∷ drop (first_changed pool new new its) its)
   unfolding placed first_changed
   apart_between [] f = refl
-  apart_between (x ∷ xs) f = rw (f x (inl refl)) (go (is_less (compare_items pool x new)) (apart_between xs (λ y m. f y (inr m))))
+  apart_between (x ∷ xs) f = rw (f x (inl refl)) (go (is_lt (compare_items pool x new)) (apart_between xs (λ y m. f y (inr m))))
     where
       a : ℕ
       a = first_changed pool new new xs

@@ -1,4 +1,5 @@
 -- The pass that rewrites a tail: what is written so far and what is still to come make up the list after it. Assumes nothing.
+use Rattle.std.specs.Ordering.{is_lt}
 use Prim.Native.Nat.{ℕ, ◌+◌, ◌-◌, ◌*◌, ◌/◌, ◌≤◌, ◌<◌, max}
 use mathlib.Core.Path.{◌≡◌, refl, sym, ap, ◌∙◌}
 use mathlib.Core.Bool.{Bool, true, false, cond, not, ◌&&◌}
@@ -7,10 +8,10 @@ use native.Mathlib.Omega.{arith}
 use native.Mathlib.Nat.{sub-zero}
 use lib.ListN.{length, take, drop, take-append-drop}
 use lib.Seq.{slice, drop-drop, take_at, drop_at}
-use lib.Dec.{ltb, leb, eqb}
-use borrow.Author.Tests.{ltb-true, leb-true, eqb-true, lt-ltb}
+use lib.Dec.{leb, eqb}
+use borrow.Author.Tests.{leb-true, eqb-true}
+use Rattle.key_order.proofs.Bools.{both_true}
 use Rattle.key_order.proofs.Impossible.{impossible}
-use Rattle.key_order.specs.Order.{is_less}
 use Rattle.query_item.specs.declared.ItemWords.{ItemWords}
 use Rattle.query_item.specs.Items.{item_size, item_at, items_from, flat, flat_all, with_item}
 use Rattle.item_check.proofs.Scans.{items_end, items_more}
@@ -35,7 +36,7 @@ handed_more : (pool : List ℕ) (is_placed : Bool) (hand it : ItemWords) (its : 
     → handed pool is_placed hand (it ∷ its) ≡ pick t it hand ∷ handed pool (not t) (pick t hand it) its
 unfolding handed placed
 handed_more pool true hand it its t e = rw e
-handed_more pool false hand it its t e = rw e (go (is_less (compare_items pool it hand)))
+handed_more pool false hand it its t e = rw e (go (is_lt (compare_items pool it hand)))
   where
     go : (u : Bool) → cond u (it ∷ placed pool hand its) (hand ∷ it ∷ its) ≡ pick u it hand ∷ handed pool (not u) (pick u hand it) its
     go true = refl
@@ -56,24 +57,13 @@ keep_taken Replaced it its e = refl
 keep_taken Stays it its e = impossible cc
 keep_taken Merges it its e = refl
 
--- ---- the loop's test
+-- ---- the test by which the pass ends early
 
-pub more_told : (i count : ℕ) (t : Bool) → ltb i count && t ≡ true → i < count
-more_told i count t e = go (ltb i count) refl e
-  where
-    go : (u : Bool) → ltb i count ≡ u → u && t ≡ true → i < count
-    go true p q = ltb-true i count p
-    go false p q = impossible cc
-
-rest_told : (is_placed : Bool) (asked to i count : ℕ) → ltb i count && not (is_placed && leb asked i && eqb to i) ≡ false → i < count
-    → (is_placed ≡ true) × (asked ≤ i) × (to ≡ i)
-rest_told is_placed asked to i count e h = go is_placed (leb asked i) (eqb to i) refl refl (rw (lt-ltb i count h) at e)
-  where
-    go : (p u v : Bool) → leb asked i ≡ u → eqb to i ≡ v → not (p && u && v) ≡ false → (p ≡ true) × (asked ≤ i) × (to ≡ i)
-    go true true true a b z = (refl, leb-true asked i a, eqb-true to i b)
-    go true true false a b z = impossible cc
-    go true false v a b z = impossible cc
-    go false u v a b z = impossible cc
+rest_told : (is_placed : Bool) (asked to i : ℕ) → is_placed && leb asked i && eqb to i ≡ true → (is_placed ≡ true) × (asked ≤ i) × (to ≡ i)
+rest_told is_placed asked to i e =
+    let last = both_true (is_placed && leb asked i) (eqb to i) e in
+    let first = both_true is_placed (leb asked i) last.0 in
+    (first.0, leb-true asked i first.1, eqb-true to i last.1)
 
 -- ---- the pass
 
@@ -180,9 +170,9 @@ module _ (pool ws₀ : List ℕ) (count : ℕ) (new : ItemWords) (out : List Ite
         )
 
     -- the result is placed, all that is left stays and no item was taken out: the rest moves up by one place, and the one in hand goes out
-    module _ (asked : ℕ) (s : Stay pool ws₀ new asked count) (t : ltb i count && not (is_placed && leb asked i && eqb to i) ≡ false) (h : i < count) where
+    module _ (asked : ℕ) (s : Stay pool ws₀ new asked count) (t : is_placed && leb asked i && eqb to i ≡ true) (h : i < count) where
       told : (is_placed ≡ true) × (asked ≤ i) × (to ≡ i)
-      told = rest_told is_placed asked to i count t h
+      told = rest_told is_placed asked to i t
 
       rest_is : handed pool is_placed hand (left i) ≡ hand ∷ items_from ws₀ i (count - i)
       unfolding handed

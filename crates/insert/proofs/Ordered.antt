@@ -1,5 +1,6 @@
 -- The list after insertion is in insertion order. Plain items that stay lie to one side of the new item and of all that merges with it, so
 -- that they lie to that side of the result. Assumes nothing.
+use Rattle.std.specs.Ordering.{is_lt}
 use Prim.Native.Nat.{ℕ, ◌+◌, ◌-◌, ◌≤◌, ◌<◌}
 use mathlib.Core.Path.{◌≡◌, refl, sym, ap, ◌∙◌}
 use mathlib.Core.Bool.{Bool, true, false, cond}
@@ -10,7 +11,6 @@ use native.Mathlib.Nat.{le_refl}
 use lib.Dec.{eqb}
 use borrow.Author.Tests.{ltb-true, ltb-false, le-ltb}
 use Rattle.key_order.proofs.Impossible.{impossible}
-use Rattle.key_order.specs.Order.{is_less}
 use Rattle.key_order.proofs.Line.{size}
 use Rattle.query_item.specs.declared.ItemWords.{ItemWords}
 use Rattle.item_check.specs.Checks.{accepted, upright_fault}
@@ -115,7 +115,7 @@ module _ (pool : List ℕ) where
               let w = (fate_is pool new x e).other in
               absurd (let z : ◌≡◌ {A = Bool} true false = sym (rw (merged_wrapped its new f) at h) ∙ w in impossible cc)
 
-      below : (x : ItemWords) → Among x its → fate_of pool new x ≡ Stays → is_less (compare_items pool x M) ≡ true → clash pool x M ≡ false
+      below : (x : ItemWords) → Among x its → fate_of pool new x ≡ Stays → is_lt (compare_items pool x M) ≡ true → clash pool x M ≡ false
       below x m e l =
           let k : K x < K M = ltb-true (K x) (K M) (sym (order_less (size pool) pool fits x M) ∙ l) in
           clash_none pool x M (omega arith) (λ s t. apart s t k) (differ (same_item pool x M) refl k)
@@ -131,7 +131,7 @@ module _ (pool : List ℕ) where
           differ true h k = absurd (omega (arith, same_item_rank (size pool) pool x M h))
           differ false h k = refl
 
-      above : (x : ItemWords) → Among x its → fate_of pool new x ≡ Stays → is_less (compare_items pool x M) ≡ false → clash pool M x ≡ false
+      above : (x : ItemWords) → Among x its → fate_of pool new x ≡ Stays → is_lt (compare_items pool x M) ≡ false → clash pool M x ≡ false
       above x m e l =
           let k : K M ≤ K x = ltb-false (K x) (K M) (sym (order_less (size pool) pool fits x M) ∙ l) in
           clash_none pool M x k (λ s t. apart s t k) (other x m e)
@@ -148,12 +148,12 @@ module _ (pool : List ℕ) where
       placed_ordered : (xs : List ItemWords) → Ordered pool xs → ((x : ItemWords) → Among x xs → Among x its × (fate_of pool new x ≡ Stays)) → Ordered pool (placed pool M xs)
       unfolding placed
       placed_ordered [] q f = (λ y m. absurd m, tt)
-      placed_ordered (x ∷ xs) q f = go (is_less (compare_items pool x M)) refl (placed_ordered xs q.1 (λ y m. f y (inr m)))
+      placed_ordered (x ∷ xs) q f = go (is_lt (compare_items pool x M)) refl (placed_ordered xs q.1 (λ y m. f y (inr m)))
         where
           here : Among x its × (fate_of pool new x ≡ Stays)
           here = f x (inl refl)
 
-          go : (t : Bool) → is_less (compare_items pool x M) ≡ t → Ordered pool (placed pool M xs) → Ordered pool (cond t (x ∷ placed pool M xs) (M ∷ x ∷ xs))
+          go : (t : Bool) → is_lt (compare_items pool x M) ≡ t → Ordered pool (placed pool M xs) → Ordered pool (cond t (x ∷ placed pool M xs) (M ∷ x ∷ xs))
           go true e r = (λ y m. later y (among_placed pool M xs y m), r)
             where
               later : (y : ItemWords) → (y ≡ M) ⊎ Among y xs → clash pool x y ≡ false

@@ -1,5 +1,6 @@
 -- Where a result is put: one more in the list, before the first item not below it. The others keep their order. Two of different ranks may be
 -- put in either order, and what stays beside another item may be looked for before or after. Assumes nothing.
+use Rattle.std.specs.Ordering.{is_lt}
 use Prim.Native.Nat.{ℕ, ◌≤◌, ◌<◌}
 use mathlib.Core.Path.{◌≡◌, refl, sym, ap, ap₂, ◌∙◌}
 use mathlib.Core.Bool.{Bool, true, false, cond, true≢false}
@@ -10,7 +11,6 @@ use native.Mathlib.Nat.{le_refl}
 use lib.ListN.{length}
 use lib.Dec.{ltb}
 use borrow.Author.Tests.{ltb-true, ltb-false, lt-ltb, le-ltb}
-use Rattle.key_order.specs.Order.{is_less}
 use Rattle.key_order.proofs.Line.{size}
 use Rattle.query_item.specs.declared.ItemWords.{ItemWords}
 use Rattle.query_item.specs.Items.{shown, SameShown}
@@ -28,7 +28,7 @@ module _ (pool : List ℕ) where
   abbrev K : ItemWords → ℕ
   K it = item_rank (size pool) pool it
 
-  below : (x y : ItemWords) → is_less (compare_items pool x y) ≡ ltb (K x) (K y)
+  below : (x y : ItemWords) → is_lt (compare_items pool x y) ≡ ltb (K x) (K y)
   below x y = order_less (size pool) pool (le_refl (size pool)) x y
 
   -- ---- the place
@@ -39,15 +39,15 @@ module _ (pool : List ℕ) where
     pub back : List ItemWords
     pub parts : others ≡ front ++ back
     pub together : whole ≡ front ++ (result ∷ back)
-    pub before : (y : ItemWords) → Among y front → is_less (compare_items pool y result) ≡ true
-    pub behind : (y : ItemWords) → Among y back → is_less (compare_items pool y result) ≡ false
+    pub before : (y : ItemWords) → Among y front → is_lt (compare_items pool y result) ≡ true
+    pub behind : (y : ItemWords) → Among y back → is_lt (compare_items pool y result) ≡ false
 
   pub placed_between : (result : ItemWords) (its : List ItemWords) → Sorted pool its → Divides result its (placed pool result its)
   unfolding placed
   placed_between result [] o = record { front = []; back = []; parts = refl; together = refl; before = λ y m. absurd m; behind = λ y m. absurd m }
-  placed_between result (x ∷ xs) o = go (is_less (compare_items pool x result)) refl (placed_between result xs o.1)
+  placed_between result (x ∷ xs) o = go (is_lt (compare_items pool x result)) refl (placed_between result xs o.1)
     where
-      go : (t : Bool) → is_less (compare_items pool x result) ≡ t → Divides result xs (placed pool result xs)
+      go : (t : Bool) → is_lt (compare_items pool x result) ≡ t → Divides result xs (placed pool result xs)
           → Divides result (x ∷ xs) (cond t (x ∷ placed pool result xs) (result ∷ x ∷ xs))
       go true e b = record {
         front = x ∷ b.front;
@@ -58,7 +58,7 @@ module _ (pool : List ℕ) where
         behind = b.behind;
       }
         where
-          first : (y : ItemWords) → (y ≡ x) ⊎ Among y b.front → is_less (compare_items pool y result) ≡ true
+          first : (y : ItemWords) → (y ≡ x) ⊎ Among y b.front → is_lt (compare_items pool y result) ≡ true
           first y (inl s) = rw s e
           first y (inr m) = b.before y m
       go false e b = record { front = []; back = x ∷ xs; parts = refl; together = refl; before = λ y m. absurd m; behind = later }
@@ -66,7 +66,7 @@ module _ (pool : List ℕ) where
           least : K result ≤ K x
           least = ltb-false (K x) (K result) (sym (below x result) ∙ e)
 
-          later : (y : ItemWords) → (y ≡ x) ⊎ Among y xs → is_less (compare_items pool y result) ≡ false
+          later : (y : ItemWords) → (y ≡ x) ⊎ Among y xs → is_lt (compare_items pool y result) ≡ false
           later y (inl s) = rw s e
           later y (inr m) = below y result ∙ le-ltb (K y) (K result) (omega (arith, o.0 y m, least))
 
@@ -81,7 +81,7 @@ module _ (pool : List ℕ) where
   pub among_placed : (result : ItemWords) (xs : List ItemWords) (y : ItemWords) → Among y (placed pool result xs) → (y ≡ result) ⊎ Among y xs
   unfolding placed
   among_placed result [] y m = m
-  among_placed result (x ∷ xs) y m = go (is_less (compare_items pool x result)) m (among_placed result xs y)
+  among_placed result (x ∷ xs) y m = go (is_lt (compare_items pool x result)) m (among_placed result xs y)
     where
       go : (t : Bool) → Among y (cond t (x ∷ placed pool result xs) (result ∷ x ∷ xs)) → (Among y (placed pool result xs) → (y ≡ result) ⊎ Among y xs)
           → (y ≡ result) ⊎ ((y ≡ x) ⊎ Among y xs)
@@ -92,7 +92,7 @@ module _ (pool : List ℕ) where
   pub placed_among : (result : ItemWords) (xs : List ItemWords) (y : ItemWords) → (y ≡ result) ⊎ Among y xs → Among y (placed pool result xs)
   unfolding placed
   placed_among result [] y m = m
-  placed_among result (x ∷ xs) y m = go (is_less (compare_items pool x result)) m (placed_among result xs y)
+  placed_among result (x ∷ xs) y m = go (is_lt (compare_items pool x result)) m (placed_among result xs y)
     where
       go : (t : Bool) → (y ≡ result) ⊎ ((y ≡ x) ⊎ Among y xs) → ((y ≡ result) ⊎ Among y xs → Among y (placed pool result xs))
           → Among y (cond t (x ∷ placed pool result xs) (result ∷ x ∷ xs))
@@ -113,10 +113,10 @@ module _ (pool : List ℕ) where
 
   -- what is not below a result stands behind it
   pub divides_before : (result : ItemWords) (others whole : List ItemWords) → Divides result others whole → (y : ItemWords) → Among y others
-      → is_less (compare_items pool y result) ≡ false → StandsBefore result y whole
+      → is_lt (compare_items pool y result) ≡ false → StandsBefore result y whole
   divides_before result others whole d y m e = rw d.together (behind_first result y d.front d.back (go d.front d.before (rw d.parts at m)))
     where
-      go : (front : List ItemWords) → ((z : ItemWords) → Among z front → is_less (compare_items pool z result) ≡ true) → Among y (front ++ d.back) → Among y d.back
+      go : (front : List ItemWords) → ((z : ItemWords) → Among z front → is_lt (compare_items pool z result) ≡ true) → Among y (front ++ d.back) → Among y d.back
       go [] f n = n
       go (z ∷ front) f (inl s) = absurd (true≢false (sym (f y (inl s)) ∙ e))
       go (z ∷ front) f (inr n) = go front (λ w k. f w (inr k)) n
@@ -130,12 +130,12 @@ module _ (pool : List ℕ) where
       rest = s.1 ++ (y ∷ s.2)
 
       go : (front : List ItemWords) → StandsBefore x y (placed pool result (front ++ (x ∷ rest)))
-      go [] = at (is_less (compare_items pool x result))
+      go [] = at (is_lt (compare_items pool x result))
         where
           at : (t : Bool) → StandsBefore x y (cond t (x ∷ placed pool result rest) (result ∷ x ∷ rest))
           at true = behind_first x y [] (placed pool result rest) (placed_among result rest y (inr (parts_among s.1 y s.2)))
           at false = behind_first x y (result ∷ []) rest (parts_among s.1 y s.2)
-      go (z ∷ front) = at (is_less (compare_items pool z result)) (go front)
+      go (z ∷ front) = at (is_lt (compare_items pool z result)) (go front)
         where
           at : (t : Bool) → StandsBefore x y (placed pool result (front ++ (x ∷ rest)))
               → StandsBefore x y (cond t (z ∷ placed pool result (front ++ (x ∷ rest))) (result ∷ z ∷ (front ++ (x ∷ rest))))
@@ -174,7 +174,7 @@ module _ (pool : List ℕ) where
 
       go : (l : List ItemWords) → staying pool new (placed pool result l) ≡ staying pool new l
       go [] = gone (fate_of pool new result) refl []
-      go (it ∷ l) = at (is_less (compare_items pool it result)) (go l)
+      go (it ∷ l) = at (is_lt (compare_items pool it result)) (go l)
         where
           at : (t : Bool) → staying pool new (placed pool result l) ≡ staying pool new l
               → staying pool new (cond t (it ∷ placed pool result l) (result ∷ it ∷ l)) ≡ keep_by (fate_of pool new it) it (staying pool new l)
@@ -186,12 +186,12 @@ module _ (pool : List ℕ) where
       → staying pool new (placed pool result its) ≡ placed pool result (staying pool new its)
   unfolding staying placed
   staying_placed new result [] o e = rw e
-  staying_placed new result (it ∷ its) o e = go (is_less (compare_items pool it result)) refl (fate_of pool new it) refl (staying_placed new result its o.1 e)
+  staying_placed new result (it ∷ its) o e = go (is_lt (compare_items pool it result)) refl (fate_of pool new it) refl (staying_placed new result its o.1 e)
     where
       rest : List ItemWords
       rest = staying pool new its
 
-      go : (t : Bool) → is_less (compare_items pool it result) ≡ t → (f : Fate) → fate_of pool new it ≡ f
+      go : (t : Bool) → is_lt (compare_items pool it result) ≡ t → (f : Fate) → fate_of pool new it ≡ f
           → staying pool new (placed pool result its) ≡ placed pool result rest
           → staying pool new (cond t (it ∷ placed pool result its) (result ∷ it ∷ its)) ≡ placed pool result (keep_by f it rest)
       go true p Replaced q r = rw q r
@@ -216,7 +216,7 @@ module _ (pool : List ℕ) where
       → merged_with pool new cur (placed pool result its) ≡ merged_with pool new cur its
   unfolding merged_with placed
   merged_past new result cur [] e = rw e
-  merged_past new result cur (it ∷ its) e = go (is_less (compare_items pool it result)) (λ c. merged_past new result c its e)
+  merged_past new result cur (it ∷ its) e = go (is_lt (compare_items pool it result)) (λ c. merged_past new result c its e)
     where
       go : (t : Bool) → ((c : ItemWords) → merged_with pool new c (placed pool result its) ≡ merged_with pool new c its)
           → merged_with pool new cur (cond t (it ∷ placed pool result its) (result ∷ it ∷ its)) ≡ merged_with pool new (merge_by pool (fate_of pool new it) cur it) its
@@ -229,9 +229,9 @@ module _ (pool : List ℕ) where
   pub placed_comm : (a b : ItemWords) (its : List ItemWords) → K a < K b → placed pool a (placed pool b its) ≡ placed pool b (placed pool a its)
   unfolding placed
   placed_comm a b [] h = rw (below b a, below a b, le-ltb (K b) (K a) (omega arith), lt-ltb (K a) (K b) h)
-  placed_comm a b (it ∷ its) h = go (is_less (compare_items pool it a)) refl (is_less (compare_items pool it b)) refl (placed_comm a b its h)
+  placed_comm a b (it ∷ its) h = go (is_lt (compare_items pool it a)) refl (is_lt (compare_items pool it b)) refl (placed_comm a b its h)
     where
-      go : (s : Bool) → is_less (compare_items pool it a) ≡ s → (t : Bool) → is_less (compare_items pool it b) ≡ t
+      go : (s : Bool) → is_lt (compare_items pool it a) ≡ s → (t : Bool) → is_lt (compare_items pool it b) ≡ t
           → placed pool a (placed pool b its) ≡ placed pool b (placed pool a its)
           → placed pool a (cond t (it ∷ placed pool b its) (b ∷ it ∷ its)) ≡ placed pool b (cond s (it ∷ placed pool a its) (a ∷ it ∷ its))
       go true p true q r = rw (p, q) (ap (λ (l : List ItemWords). it ∷ l) r)
@@ -252,7 +252,7 @@ module _ (P Q : List ℕ) where
   placed_shown a b (x ∷ A) [] s e = absurd (omega (arith, ap length e))
   placed_shown a b (x ∷ A) (y ∷ B) s e =
       let h : shown P x ≡ shown Q y = cc in
-      rw (order_shown P Q x y a b h s) (go (is_less (compare_items Q y b)) (ap₂ ◌∷◌ h (placed_shown a b A B s cc)))
+      rw (order_shown P Q x y a b h s) (go (is_lt (compare_items Q y b)) (ap₂ ◌∷◌ h (placed_shown a b A B s cc)))
     where
       go : (t : Bool) → SameShown P Q (x ∷ placed P a A) (y ∷ placed Q b B)
           → SameShown P Q (cond t (x ∷ placed P a A) (a ∷ x ∷ A)) (cond t (y ∷ placed Q b B) (b ∷ y ∷ B))

@@ -1,8 +1,8 @@
 -- How the passes that read go over a list, a turn at a time: what is left of it at an index. Each law takes what the turn's calls gave.
 -- Assumes nothing.
-use Prim.Native.Nat.{ℕ, suc, ◌+◌, ◌-◌, ◌≤◌, ◌<◌}
+use Prim.Native.Nat.{ℕ, ◌-◌, ◌≤◌, ◌<◌}
 use mathlib.Core.Path.{◌≡◌}
-use mathlib.Core.Bool.{true, false}
+use mathlib.Core.Bool.{false}
 use mathlib.Core.List.{List}
 use Rattle.query_item.specs.declared.ItemWords.{ItemWords}
 use Rattle.query_item.specs.Items.{item_at, items_from}
@@ -17,11 +17,6 @@ module _ (pool ws : List ℕ) (i count : ℕ) where
       → first_changed pool new result (left i) ≡ 0
   unfolding first_changed
   first_here new result h p q = rw (items_more ws i count h, ← p, q)
-
-  pub first_next : (new result : ItemWords) {old : ItemWords} → i < count → old ≡ item_at ws i → keeps_place pool new result old ≡ true
-      → first_changed pool new result (left i) ≡ suc (first_changed pool new result (left (i + 1)))
-  unfolding first_changed
-  first_next new result h p q = rw (items_more ws i count h, ← p, q)
 
   pub first_end : (new result : ItemWords) → count ≤ i → first_changed pool new result (left i) ≡ 0
   unfolding first_changed

@@ -1,5 +1,7 @@
 -- Insertions one after the other (02 §10), each law stated once: of plain items the order does not matter, on lists and on the words that calls
 -- leave; others of one range stand in order of arrival; of calls that follow one another the room alone can be refused. Assumes nothing.
+use Rattle.std.specs.Prelude.{Ok, Err}
+use Rattle.std.specs.declared.cmp.Ordering.TheVariants.{Equal}
 use Prim.Native.Nat.{ℕ, ◌+◌, ◌/◌, ◌≤◌}
 use mathlib.Core.Path.{◌≡◌, refl, sym, ap, ◌∙◌}
 use mathlib.Core.Bool.{Bool, true, false, cond, ◌||◌, ◌&&◌}
@@ -9,14 +11,13 @@ use native.Mathlib.Omega.{arith}
 use lib.ListN.{length}
 use lib.Dec.{ltb}
 use Rattle.key_order.proofs.Impossible.{impossible}
-use Rattle.key_order.specs.declared.Ordering.TheVariants.{Equal}
 use Rattle.query_item.specs.declared.ItemWords.{ItemWords}
 use Rattle.query_item.specs.Items.{item_size, items_from, shown, SameShown}
 use Rattle.query_item.proofs.Laws.{length_shown}
 use Rattle.intervals.specs.Lists.{Reordered}
 use Rattle.intervals.proofs.Laws.{All, reordered_two, reordered_by, length_reordered}
 use Rattle.item_check.specs.declared.Refusal.{Refusal}
-use Rattle.item_check.specs.Checks.{Answer, answered, refused, refused_as, refusal, accepted, most_items, upright_fault}
+use Rattle.item_check.specs.Checks.{Answer, refused, refusal, accepted, most_items, upright_fault}
 use Rattle.item_lists.specs.Written.{passes}
 use Rattle.insert_order.specs.Order.{compare_items, plain, same_item}
 use Rattle.insert_order.specs.Refusals.{ordered_verdict}
@@ -38,7 +39,7 @@ module _ (pool : List ℕ) where
 
   -- where the first call answers, the others go on from the words and the count that it leaves
 
-  module _ (ws : List ℕ) (count : ℕ) (new : ItemWords) (news : List ItemWords) (k : ℕ) (e : insert_answer pool ws count new ≡ answered k) where
+  module _ (ws : List ℕ) (count : ℕ) (new : ItemWords) (news : List ItemWords) (k : ℕ) (e : insert_answer pool ws count new ≡ Ok k) where
     pub more_answer : insert_all_answer pool ws count (new ∷ news) ≡ insert_all_answer pool (insert_words pool ws count new) k news
     unfolding insert_all_answer
     more_answer = ap (λ (r : Answer ℕ). next_answer r (λ n. insert_all_answer pool (insert_words pool ws count new) n news)) e
@@ -49,8 +50,8 @@ module _ (pool : List ℕ) where
 
   -- where it refuses, that is the answer, and the words stay
 
-  module _ (ws : List ℕ) (count : ℕ) (new : ItemWords) (news : List ItemWords) (r : Refusal) (e : insert_answer pool ws count new ≡ refused_as r) where
-    pub end_answer : insert_all_answer pool ws count (new ∷ news) ≡ refused_as r
+  module _ (ws : List ℕ) (count : ℕ) (new : ItemWords) (news : List ItemWords) (r : Refusal) (e : insert_answer pool ws count new ≡ Err r) where
+    pub end_answer : insert_all_answer pool ws count (new ∷ news) ≡ Err r
     unfolding insert_all_answer
     end_answer = ap (λ (r : Answer ℕ). next_answer r (λ n. insert_all_answer pool (insert_words pool ws count new) n news)) e
 
@@ -119,20 +120,20 @@ module _ (pool : List ℕ) where
   -- the first one does, and so do those after it
   record Begun (ws : List ℕ) (count : ℕ) (new : ItemWords) (news : List ItemWords) (n : ℕ) : Type 0 where
     many : ℕ
-    first : insert_answer pool ws count new ≡ answered many
-    others : insert_all_answer pool (insert_words pool ws count new) many news ≡ answered n
+    first : insert_answer pool ws count new ≡ Ok many
+    others : insert_all_answer pool (insert_words pool ws count new) many news ≡ Ok n
 
-  begun : (ws : List ℕ) (count : ℕ) (new : ItemWords) (news : List ItemWords) (n : ℕ) → insert_all_answer pool ws count (new ∷ news) ≡ answered n → Begun ws count new news n
+  begun : (ws : List ℕ) (count : ℕ) (new : ItemWords) (news : List ItemWords) (n : ℕ) → insert_all_answer pool ws count (new ∷ news) ≡ Ok n → Begun ws count new news n
   unfolding insert_all_answer
   begun ws count new news n e = go (insert_answer pool ws count new) refl e
     where
-      go : (r : Answer ℕ) → insert_answer pool ws count new ≡ r → next_answer r (λ k. insert_all_answer pool (insert_words pool ws count new) k news) ≡ answered n
+      go : (r : Answer ℕ) → insert_answer pool ws count new ≡ r → next_answer r (λ k. insert_all_answer pool (insert_words pool ws count new) k news) ≡ Ok n
           → Begun ws count new news n
-      go (answered k) p q = record { many = k; first = p; others = q }
-      go (refused_as r) p q = impossible cc
+      go (Ok k) p q = record { many = k; first = p; others = q }
+      go (Err r) p q = impossible cc
 
   -- the items that they leave
-  pub all_items : (ws : List ℕ) (count : ℕ) (news : List ItemWords) (n : ℕ) → insert_all_answer pool ws count news ≡ answered n
+  pub all_items : (ws : List ℕ) (count : ℕ) (news : List ItemWords) (n : ℕ) → insert_all_answer pool ws count news ≡ Ok n
       → items_from (insert_all_words pool ws count news) 0 n ≡ inserted_all pool news (items_from ws 0 count)
   unfolding insert_all_answer insert_all_words inserted_all
   all_items ws count [] n e = let c : n ≡ count = cc in rw c
@@ -144,7 +145,7 @@ module _ (pool : List ℕ) where
       ∙ ap (inserted_all pool news) (called_items pool ws count new b.many b.first)
 
   -- each of the items passes the checks
-  all_upright : (ws : List ℕ) (count : ℕ) (news : List ItemWords) (n : ℕ) → insert_all_answer pool ws count news ≡ answered n → All IsUpright news
+  all_upright : (ws : List ℕ) (count : ℕ) (news : List ItemWords) (n : ℕ) → insert_all_answer pool ws count news ≡ Ok n → All IsUpright news
   all_upright ws count [] n e = tt
   all_upright ws count (new ∷ news) n e =
       let b = begun ws count new news n e in
@@ -160,32 +161,32 @@ module _ (pool : List ℕ) where
     abbrev pub left_by : List ItemWords → ℕ → List ItemWords
     left_by news n = items_from (insert_all_words pool ws count news) 0 n
 
-    list_passes : (new : ItemWords) (news : List ItemWords) (n : ℕ) → insert_all_answer pool ws count (new ∷ news) ≡ answered n → ordered_verdict pool its ≡ accepted
+    list_passes : (new : ItemWords) (news : List ItemWords) (n : ℕ) → insert_all_answer pool ws count (new ∷ news) ≡ Ok n → ordered_verdict pool its ≡ accepted
     list_passes new news n e = let b = begun ws count new news n e in (called_list pool ws count new b.many b.first).listed
 
-    lists_same : (xs ys : List ItemWords) → Reordered xs ys → All IsPlain xs → (m : ℕ) → insert_all_answer pool ws count xs ≡ answered m
+    lists_same : (xs ys : List ItemWords) → Reordered xs ys → All IsPlain xs → (m : ℕ) → insert_all_answer pool ws count xs ≡ Ok m
         → SameShown pool pool (inserted_all pool xs its) (inserted_all pool ys its)
     lists_same [] [] r p m e = refl
     lists_same [] (y ∷ ys) r p m e = absurd (omega (arith, length_reordered [] (y ∷ ys) r))
     lists_same (x ∷ xs) ys r p m e = inserted_reordered (x ∷ xs) ys r p (all_upright ws count (x ∷ xs) m e) its (list_passes x xs m e)
 
     -- 02 §10.1: calls with plain items in one order, and with these in another, that answer leave the same items by bytes
-    pub insert_reordered : (xs ys : List ItemWords) (m n : ℕ) → Reordered xs ys → All IsPlain xs → insert_all_answer pool ws count xs ≡ answered m
-        → insert_all_answer pool ws count ys ≡ answered n → SameShown pool pool (left_by xs m) (left_by ys n)
+    pub insert_reordered : (xs ys : List ItemWords) (m n : ℕ) → Reordered xs ys → All IsPlain xs → insert_all_answer pool ws count xs ≡ Ok m
+        → insert_all_answer pool ws count ys ≡ Ok n → SameShown pool pool (left_by xs m) (left_by ys n)
     insert_reordered xs ys m n r p e f =
         ap (map (shown pool)) (all_items ws count xs m e) ∙ lists_same xs ys r p m e ∙ ap (map (shown pool)) (sym (all_items ws count ys n f))
 
     -- and as many
-    pub reordered_count : (xs ys : List ItemWords) (m n : ℕ) → Reordered xs ys → All IsPlain xs → insert_all_answer pool ws count xs ≡ answered m
-        → insert_all_answer pool ws count ys ≡ answered n → m ≡ n
+    pub reordered_count : (xs ys : List ItemWords) (m n : ℕ) → Reordered xs ys → All IsPlain xs → insert_all_answer pool ws count xs ≡ Ok m
+        → insert_all_answer pool ws count ys ≡ Ok n → m ≡ n
     reordered_count xs ys m n r p e f =
         sym (length_items (insert_all_words pool ws count xs) 0 m)
         ∙ length_shown pool pool (left_by xs m) (left_by ys n) (insert_reordered xs ys m n r p e f)
         ∙ length_items (insert_all_words pool ws count ys) 0 n
 
     -- 02 §10.1: two calls with plain items, which answer in both orders, leave the same items by bytes
-    pub insert_either_order : (x y : ItemWords) (m n : ℕ) → plain x ≡ true → plain y ≡ true → insert_all_answer pool ws count (x ∷ y ∷ []) ≡ answered m
-        → insert_all_answer pool ws count (y ∷ x ∷ []) ≡ answered n
+    pub insert_either_order : (x y : ItemWords) (m n : ℕ) → plain x ≡ true → plain y ≡ true → insert_all_answer pool ws count (x ∷ y ∷ []) ≡ Ok m
+        → insert_all_answer pool ws count (y ∷ x ∷ []) ≡ Ok n
         → (m ≡ n) × SameShown pool pool (left_by (x ∷ y ∷ []) m) (left_by (y ∷ x ∷ []) n)
     insert_either_order x y m n p q e f =
         let xs = x ∷ y ∷ [] in
@@ -193,14 +194,14 @@ module _ (pool : List ℕ) where
         (reordered_count xs ys m n (reordered_two x y) (p, (q, tt)) e f, insert_reordered xs ys m n (reordered_two x y) (p, (q, tt)) e f)
 
     -- 02 §10.2: items stand in order of arrival, as `insert_arrival` has it, in what a call that answers leaves
-    pub arrival_order : (new it : ItemWords) (n : ℕ) → insert_answer pool ws count new ≡ answered n → Among it its → same_item pool new it ≡ false
+    pub arrival_order : (new it : ItemWords) (n : ℕ) → insert_answer pool ws count new ≡ Ok n → Among it its → same_item pool new it ≡ false
         → plain new && plain it ≡ false → compare_items pool it (merged_with pool new new its) ≡ Equal
         → StandsBefore (merged_with pool new new its) it (items_from (insert_words pool ws count new) 0 n)
     arrival_order new it n e m d w o =
         rw (called_items pool ws count new n e) (insert_arrival pool new it its (called_list pool ws count new n e).listed m d w o)
 
     -- 02 §10.2: and calls that answer, after which both stay, keep the order of two items
-    pub order_kept : (news : List ItemWords) (x y : ItemWords) (n : ℕ) → insert_all_answer pool ws count news ≡ answered n
+    pub order_kept : (news : List ItemWords) (x y : ItemWords) (n : ℕ) → insert_all_answer pool ws count news ≡ Ok n
         → All (LeavesBoth x y) news → StandsBefore x y its → StandsBefore x y (left_by news n)
     order_kept news x y n e f s = rw (all_items ws count news n e) (all_kept news x y its f s)
 
@@ -208,18 +209,18 @@ module _ (pool : List ℕ) where
 
   -- one call more, on a list that is accepted: the room decides
   one_answer : (ws : List ℕ) (count : ℕ) (new : ItemWords) → Ready pool ws count → IsUpright new
-      → (insert_answer pool ws count new ≡ answered (length (inserted pool new (items_from ws 0 count)))) ⊎ (insert_answer pool ws count new ≡ refused 6 0 0)
+      → (insert_answer pool ws count new ≡ Ok (length (inserted pool new (items_from ws 0 count)))) ⊎ (insert_answer pool ws count new ≡ refused 6 0 0)
   one_answer ws count new r u = go (passes n ws || ltb most_items n) (ready_answer pool ws count new r u)
     where
       n : ℕ
       n = length (inserted pool new (items_from ws 0 count))
 
-      go : (t : Bool) → insert_answer pool ws count new ≡ cond t (refused 6 0 0) (answered n)
-          → (insert_answer pool ws count new ≡ answered n) ⊎ (insert_answer pool ws count new ≡ refused 6 0 0)
+      go : (t : Bool) → insert_answer pool ws count new ≡ cond t (refused 6 0 0) (Ok n)
+          → (insert_answer pool ws count new ≡ Ok n) ⊎ (insert_answer pool ws count new ≡ refused 6 0 0)
       go true e = inr e
       go false e = inl e
 
-  more_items : (ws : List ℕ) (count : ℕ) (new : ItemWords) (news : List ItemWords) (k : ℕ) → insert_answer pool ws count new ≡ answered k
+  more_items : (ws : List ℕ) (count : ℕ) (new : ItemWords) (news : List ItemWords) (k : ℕ) → insert_answer pool ws count new ≡ Ok k
       → inserted_all pool news (items_from (insert_words pool ws count new) 0 k) ≡ inserted_all pool (new ∷ news) (items_from ws 0 count)
   unfolding inserted_all
   more_items ws count new news k e = ap (inserted_all pool news) (called_items pool ws count new k e)
@@ -227,22 +228,22 @@ module _ (pool : List ℕ) where
   -- calls answer how many items there are then, or 6
   abbrev pub RoomDecides : List ℕ → ℕ → List ItemWords → Type 0
   RoomDecides ws count news =
-      (insert_all_answer pool ws count news ≡ answered (length (inserted_all pool news (items_from ws 0 count)))) ⊎ (insert_all_answer pool ws count news ≡ refused 6 0 0)
+      (insert_all_answer pool ws count news ≡ Ok (length (inserted_all pool news (items_from ws 0 count)))) ⊎ (insert_all_answer pool ws count news ≡ refused 6 0 0)
 
   -- items that pass the checks, inserted one after the other into a list that is accepted, are refused for want of room alone
   pub all_room : (ws : List ℕ) (count : ℕ) (news : List ItemWords) → Ready pool ws count → All IsUpright news → RoomDecides ws count news
   unfolding insert_all_answer inserted_all
-  all_room ws count [] r u = inl (ap answered (sym (length_items ws 0 count)))
+  all_room ws count [] r u = inl (ap Ok (sym (length_items ws 0 count)))
   all_room ws count (new ∷ news) r u = go (one_answer ws count new r u.0) (λ k q. all_room (insert_words pool ws count new) k news q u.1)
     where
       n : ℕ
       n = length (inserted pool new (items_from ws 0 count))
 
-      rest : insert_answer pool ws count new ≡ answered n → RoomDecides (insert_words pool ws count new) n news → RoomDecides ws count (new ∷ news)
-      rest e (inl q) = inl (more_answer ws count new news n e ∙ q ∙ ap (λ (l : List ItemWords). answered (length l)) (more_items ws count new news n e))
+      rest : insert_answer pool ws count new ≡ Ok n → RoomDecides (insert_words pool ws count new) n news → RoomDecides ws count (new ∷ news)
+      rest e (inl q) = inl (more_answer ws count new news n e ∙ q ∙ ap (λ (l : List ItemWords). Ok (length l)) (more_items ws count new news n e))
       rest e (inr q) = inr (more_answer ws count new news n e ∙ q)
 
-      go : (insert_answer pool ws count new ≡ answered n) ⊎ (insert_answer pool ws count new ≡ refused 6 0 0)
+      go : (insert_answer pool ws count new ≡ Ok n) ⊎ (insert_answer pool ws count new ≡ refused 6 0 0)
           → ((k : ℕ) → Ready pool (insert_words pool ws count new) k → RoomDecides (insert_words pool ws count new) k news) → RoomDecides ws count (new ∷ news)
       go (inl e) f = rest e (f n (called_ready pool ws count new n e))
       go (inr e) f = inr (end_answer ws count new news (refusal 6 0 0) e)
@@ -250,14 +251,14 @@ module _ (pool : List ℕ) where
   -- with a place for each of them none is
   pub all_enough : (ws : List ℕ) (count : ℕ) (news : List ItemWords) → Ready pool ws count → All IsUpright news
       → count + length news ≤ length ws / item_size → count + length news ≤ most_items
-      → insert_all_answer pool ws count news ≡ answered (length (inserted_all pool news (items_from ws 0 count)))
+      → insert_all_answer pool ws count news ≡ Ok (length (inserted_all pool news (items_from ws 0 count)))
   unfolding insert_all_answer inserted_all
-  all_enough ws count [] r u h l = ap answered (sym (length_items ws 0 count))
+  all_enough ws count [] r u h l = ap Ok (sym (length_items ws 0 count))
   all_enough ws count (new ∷ news) r u h l =
       more_answer ws count new news n here
       ∙ all_enough (insert_words pool ws count new) n news (called_ready pool ws count new n here) u.1 (rw (called_size pool ws count new n here) (omega (arith, few)))
       (omega (arith, few))
-      ∙ ap (λ (m : List ItemWords). answered (length m)) (more_items ws count new news n here)
+      ∙ ap (λ (m : List ItemWords). Ok (length m)) (more_items ws count new news n here)
     where
       n : ℕ
       n = length (inserted pool new (items_from ws 0 count))
@@ -265,5 +266,5 @@ module _ (pool : List ℕ) where
       few : n ≤ count + 1
       few = omega (arith, length_inserted pool new (items_from ws 0 count), length_staying pool new (items_from ws 0 count), length_items ws 0 count)
 
-      here : insert_answer pool ws count new ≡ answered n
+      here : insert_answer pool ws count new ≡ Ok n
       here = ready_answer pool ws count new r u.0 ∙ room_enough ws n (omega (arith, few)) (omega (arith, few))

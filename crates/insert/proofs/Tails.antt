@@ -1,5 +1,6 @@
 -- The list after insertion by its tail: what stands before the first change stays, and the tail that is lent on comes back rewritten. Assumes
 -- nothing.
+use Rattle.std.specs.Ordering.{is_lt}
 use Prim.Native.Nat.{ℕ, zero, suc, ◌+◌, ◌-◌, ◌*◌, ◌/◌, ◌≤◌, max}
 use mathlib.Core.Path.{◌≡◌, refl, sym, ap, ◌∙◌}
 use mathlib.Core.Bool.{Bool, true, false, cond, ◌||◌, ◌&&◌}
@@ -11,7 +12,6 @@ use lib.Seq.{take_all, drop-drop}
 use lib.Dec.{ltb}
 use borrow.Author.Tests.{ltb-false}
 use Rattle.key_order.proofs.Impossible.{impossible}
-use Rattle.key_order.specs.Order.{is_less}
 use Rattle.query_item.specs.declared.ItemWords.{ItemWords}
 use Rattle.query_item.specs.Items.{item_size, item_at, items_from, flat_all}
 use Rattle.insert_order.specs.Order.{compare_items}
@@ -28,7 +28,7 @@ use Rattle.item_lists.proofs.Words.{item_drop, items_drop, flat_append, flat_fro
 pub length_placed : (pool : List ℕ) (result : ItemWords) (its : List ItemWords) → length (placed pool result its) ≡ length its + 1
 unfolding placed
 length_placed pool result [] = refl
-length_placed pool result (it ∷ its) = go (is_less (compare_items pool it result)) (length_placed pool result its)
+length_placed pool result (it ∷ its) = go (is_lt (compare_items pool it result)) (length_placed pool result its)
   where
     go : (t : Bool) → length (placed pool result its) ≡ length its + 1
         → length (cond t (it ∷ placed pool result its) (result ∷ it ∷ its)) ≡ suc (length its) + 1
@@ -61,9 +61,9 @@ module _ (pool : List ℕ) (new result : ItemWords) where
   pub put_front : (its : List ItemWords) → put its ≡ take (first its) its ++ put (drop (first its) its)
   unfolding first_changed staying placed
   put_front [] = refl
-  put_front (it ∷ its) = go (fate_of pool new it) refl (is_less (compare_items pool it result)) refl (put_front its)
+  put_front (it ∷ its) = go (fate_of pool new it) refl (is_lt (compare_items pool it result)) refl (put_front its)
     where
-      go : (f : Fate) → fate_of pool new it ≡ f → (t : Bool) → is_less (compare_items pool it result) ≡ t → put its ≡ take (first its) its ++ put (drop (first its) its)
+      go : (f : Fate) → fate_of pool new it ≡ f → (t : Bool) → is_lt (compare_items pool it result) ≡ t → put its ≡ take (first its) its ++ put (drop (first its) its)
           → placed pool result (keep_by f it (staying pool new its))
           ≡ take (cond (is_staying f && t) (suc (first its)) 0) (it ∷ its) ++ put (drop (cond (is_staying f && t) (suc (first its)) 0) (it ∷ its))
       go Stays e true h r = rw h (ap (λ (l : List ItemWords). it ∷ l) r)

@@ -1,17 +1,21 @@
 -- The items of an accepted list that are known to stay, by the order of the list: of those below the new item all but the last plain one,
 -- and all that start above its end. What the list comes to is what the others come to. Assumes nothing.
+use Rattle.std.specs.Ordering.{is_lt}
 use Prim.Native.Nat.{ℕ, zero, suc, ◌+◌, ◌-◌, ◌≤◌, ◌<◌}
 use mathlib.Core.Path.{◌≡◌, refl, sym, ap, ◌∙◌}
-use mathlib.Core.Bool.{true, false}
+use mathlib.Core.Bool.{true, false, not}
 use mathlib.Core.Logic.{◌⊎◌, inl, inr}
 use mathlib.Core.List.{List, [], ◌∷◌, ◌++◌}
 use native.Mathlib.Omega.{arith}
 use native.Mathlib.Nat.{le_refl}
 use native.Mathlib.Decide.{dec_lt}
 use lib.ListN.{length, length-append}
-use borrow.Author.Tests.{ltb-true, ltb-false, lt-ltb, le-ltb}
+use borrow.Author.Tests.{ltb-true, ltb-false, lt-ltb, le-ltb, not-true, not-false}
+use Rattle.std.specs.Option.{MatchOption, unwrap_or}
+use Rattle.std.specs.declared.option.Option.{Option}
+use Rattle.std.specs.declared.option.Option.TheVariants.{None, Some}
+use Rattle.std.specs.declared.ops.Range.{Range}
 use Rattle.key_order.proofs.Impossible.{impossible}
-use Rattle.key_order.specs.Order.{is_less}
 use Rattle.key_order.proofs.Line.{size}
 use Rattle.query_item.specs.declared.ItemWords.{ItemWords}
 use Rattle.query_item.specs.Items.{item_at, items_from}
@@ -21,13 +25,18 @@ use Rattle.insert_order.specs.Refusals.{input_verdict}
 use Rattle.insert_order.proofs.Ranked.{lo, hi, item_rank, order_less, rank_start, same_rank, same_item_rank}
 use Rattle.insert_order.proofs.Ordered.{Among, accepted_ordered, clash_says, ordered_at}
 use Rattle.insert_order.proofs.Accepted.{accepted_order, upright_ranks, input_list, input_new}
+use Rattle.insert_order.proofs.Chains.{First}
 use Rattle.insert_merge.specs.declared.Fate.{Fate}
 use Rattle.insert_merge.specs.declared.Fate.TheVariants.{Replaced, Stays, Merges}
 use Rattle.insert_merge.specs.Merge.{fate_of, keep_by, staying, merge_by, merged_with, is_staying}
 use Rattle.insert_merge.proofs.Merged.{merged_none, ends_ranks, ranks_stay}
 use Rattle.insert_merge.proofs.Staying.{merges_gone, staying_all}
 use Rattle.insert.specs.Passes.{Ascending, Below, Stay, Asked, keeps_place, first_changed, stays_at}
+use Rattle.insert.proofs.Reading.{first_here, first_end}
 use Rattle.item_lists.proofs.Words.{length_items}
+
+abbrev range : ℕ → ℕ → Range ℕ
+range a b = record { start = a; end = b }
 
 module _ (pool : List ℕ) where
   abbrev K : ItemWords → ℕ
@@ -42,16 +51,16 @@ module _ (pool : List ℕ) where
   fits : size pool ≤ size pool
   fits = le_refl (size pool)
 
-  less_ranks : (x y : ItemWords) → is_less (compare_items pool x y) ≡ true → K x < K y
+  less_ranks : (x y : ItemWords) → is_lt (compare_items pool x y) ≡ true → K x < K y
   less_ranks x y e = ltb-true (K x) (K y) (sym (order_less (size pool) pool fits x y) ∙ e)
 
-  other_ranks : (x y : ItemWords) → is_less (compare_items pool x y) ≡ false → K y ≤ K x
+  other_ranks : (x y : ItemWords) → is_lt (compare_items pool x y) ≡ false → K y ≤ K x
   other_ranks x y e = ltb-false (K x) (K y) (sym (order_less (size pool) pool fits x y) ∙ e)
 
-  ranks_less : (x y : ItemWords) → K x < K y → is_less (compare_items pool x y) ≡ true
+  ranks_less : (x y : ItemWords) → K x < K y → is_lt (compare_items pool x y) ≡ true
   ranks_less x y h = order_less (size pool) pool fits x y ∙ lt-ltb (K x) (K y) h
 
-  ranks_other : (x y : ItemWords) → K y ≤ K x → is_less (compare_items pool x y) ≡ false
+  ranks_other : (x y : ItemWords) → K y ≤ K x → is_lt (compare_items pool x y) ≡ false
   ranks_other x y h = order_less (size pool) pool fits x y ∙ le-ltb (K x) (K y) h
 
 -- ---- what is below an item
@@ -64,8 +73,8 @@ module _ (pool ws : List ℕ) (count : ℕ) (it : ItemWords) where
   pub record Halved (low high : ℕ) : Type 0 where
     pub meets : low ≤ high
     pub within : high ≤ count
-    pub below : (j : ℕ) → j < low → is_less (compare_items pool (at j) it) ≡ true
-    pub others : (j : ℕ) → high ≤ j → j < count → is_less (compare_items pool (at j) it) ≡ false
+    pub below : (j : ℕ) → j < low → is_lt (compare_items pool (at j) it) ≡ true
+    pub others : (j : ℕ) → high ≤ j → j < count → is_lt (compare_items pool (at j) it) ≡ false
 
   pub halved_start : Halved 0 count
   halved_start =
@@ -77,7 +86,7 @@ module _ (pool ws : List ℕ) (count : ℕ) (it : ItemWords) where
       }
 
   module _ (low high mid : ℕ) (up : Ascending pool ws count) (v : Halved low high) (h : low ≤ mid) (l : mid < high) {x : ItemWords} (p : x ≡ at mid) where
-    pub halved_above : is_less (compare_items pool x it) ≡ true → Halved (mid + 1) high
+    pub halved_above : is_lt (compare_items pool x it) ≡ true → Halved (mid + 1) high
     halved_above e =
         record {
           meets = omega arith;
@@ -89,7 +98,7 @@ module _ (pool ws : List ℕ) (count : ℕ) (it : ItemWords) where
           others = v.others;
         }
 
-    pub halved_below : is_less (compare_items pool x it) ≡ false → Halved low mid
+    pub halved_below : is_lt (compare_items pool x it) ≡ false → Halved low mid
     halved_below e =
         record {
           meets = h;
@@ -104,16 +113,6 @@ module _ (pool ws : List ℕ) (count : ℕ) (it : ItemWords) where
   pub halved_end : (low high : ℕ) → Halved low high → high ≤ low → Below pool ws count it low
   halved_end low high v h =
       record { within = omega (arith, v.meets, v.within); below = v.below; others = λ j k l. v.others j (omega (arith, v.meets)) l }
-
--- none of the items from i on up to the place is plain
-abbrev pub Wrapped : List ℕ → ℕ → ℕ → Type 0
-Wrapped ws place i = (j : ℕ) → i ≤ j → j < place → plain (item_at ws j) ≡ false
-
-pub wrapped_more : (ws : List ℕ) (place i : ℕ) → 0 < i → Wrapped ws place i → {x : ItemWords} → x ≡ item_at ws (i - 1) → plain x ≡ false → Wrapped ws place (i - 1)
-wrapped_more ws place i g w p e j h l = elim (dec_lt (i - 1) j) [
-  | yes m ↦ w j (omega arith) l
-  | no m ↦ let s : j ≡ i - 1 = omega arith in rw (s, ← p) e
-]
 
 -- ---- what stays of an accepted list
 
@@ -142,6 +141,11 @@ module _ (pool ws : List ℕ) (count : ℕ) (new : ItemWords) (ok : input_verdic
         | no m ↦ let s : j ≡ i = omega arith in rw s (ends_ranks (size pool) pool (fits pool) new (item_at ws i) (rw p at e))
       ]
 
+  pub back_by : (place : ℕ) → place ≤ count → (r : Option ℕ) → MatchOption r ((j : ℕ) → place ≤ j → j < count → ends_below pool new (item_at ws j) ≡ false) (First (range place count) (λ j. ends_below pool new (item_at ws j)))
+      → {n : ℕ} → n ≡ unwrap_or r count → (place ≤ n) × (n ≤ count) × Stay pool ws new n count
+  back_by place h None f e = rw e (h, omega arith, λ j k l. absurd (omega arith))
+  back_by place h (Some i) f e = rw e (f.from, omega (arith, f.below), stay_back i refl f.passes)
+
   module _ (place : ℕ) (v : Below pool ws count new place) where
     low : (j : ℕ) → j < place → K pool (item_at ws j) < K pool new
     low j h = less_ranks pool (item_at ws j) new (v.below j h)
@@ -154,26 +158,26 @@ module _ (pool ws : List ℕ) (count : ℕ) (new : ItemWords) (ok : input_verdic
     pub stay_wrapped : plain new ≡ false → Stay pool ws new 0 place
     stay_wrapped e j h l = below_stays j l (λ a b. impossible cc)
 
-    pub stay_none : (i : ℕ) → i ≤ 0 → Wrapped ws place i → Stay pool ws new 0 place
-    stay_none i z w j h l = below_stays j l (λ a b. absurd (let f = w j (omega arith) l in impossible cc))
+    pub stay_none : ((j : ℕ) → 0 ≤ j → j < place → plain (item_at ws j) ≡ false) → Stay pool ws new 0 place
+    stay_none w j h l = below_stays j l (λ a b. absurd (let f = w j h l in impossible cc))
 
     -- the last plain one
-    module _ (i : ℕ) (g : 0 < i) (h : i ≤ place) {x : ItemWords} (p : x ≡ item_at ws (i - 1)) (e : plain x ≡ true) where
-      pub stay_plain : Stay pool ws new 0 (i - 1)
+    module _ (i : ℕ) (h : i < place) (e : plain (item_at ws i) ≡ true) where
+      pub stay_plain : Stay pool ws new 0 i
       stay_plain j k l =
           below_stays j (omega arith)
           (λ a b. omega (
             arith,
-            (apart j (i - 1) l (omega (arith, v.within))).1 b (rw p at e),
-            rank_start (size pool) pool (fits pool) (item_at ws (i - 1)) new (omega (arith, low (i - 1) (omega arith))),
+            (apart j i l (omega (arith, v.within))).1 b e,
+            rank_start (size pool) pool (fits pool) (item_at ws i) new (omega (arith, low i h)),
           ))
 
-      pub stay_below : Wrapped ws place i → ends_below pool x new ≡ true → Stay pool ws new 0 place
-      stay_below w f j k l = elim (dec_lt j (i - 1)) [
+      pub stay_below : ((j : ℕ) → i < j → j < place → plain (item_at ws j) ≡ false) → ends_below pool (item_at ws i) new ≡ true → Stay pool ws new 0 place
+      stay_below w f j k l = elim (dec_lt j i) [
         | yes m ↦ stay_plain j k m
-        | no m ↦ below_stays j l (λ a b. elim (dec_lt (i - 1) j) [
-          | yes n ↦ absurd (let g = w j (omega arith) l in impossible cc)
-          | no n ↦ let s : j ≡ i - 1 = omega arith in rw s (ends_ranks (size pool) pool (fits pool) (item_at ws (i - 1)) new (rw p at f))
+        | no m ↦ below_stays j l (λ a b. elim (dec_lt i j) [
+          | yes n ↦ absurd (let g = w j n l in impossible cc)
+          | no n ↦ let s : j ≡ i = omega arith in rw s (ends_ranks (size pool) pool (fits pool) (item_at ws i) new f)
         ])
       ]
 
@@ -277,12 +281,32 @@ first_skip pool ws new result i (suc a) n f =
     let g : i + suc a ≡ suc i + a = omega arith in
     rw (e, g, f i (omega arith) (omega arith)) (omega (arith, first_skip pool ws new result (suc i) a n (λ j h l. f j (omega arith) (omega arith))))
 
-pub first_start : (pool ws : List ℕ) (count from : ℕ) (new result : ItemWords) (a : ℕ) → from ≤ count → Stay pool ws new 0 from → Below pool ws from result a
-    → first_changed pool new result (items_from ws 0 count) ≡ a + first_changed pool new result (items_from ws a (count - a))
-first_start pool ws count from new result a h s v =
-    let e : a + (count - a) ≡ count = omega (arith, v.within) in
-    let z : 0 + a ≡ a = omega arith in
-    rw (e, z) at (first_skip pool ws new result 0 a (count - a) (λ j k l. rw (s j k (omega (arith, v.within)), v.below j (omega arith))))
+-- those below the result and before `from` keep their places; then the first of those left that does not is known, or that none is
+module _ (pool ws : List ℕ) (count from : ℕ) (new result : ItemWords) (a : ℕ) (h : from ≤ count) (s : Stay pool ws new 0 from) (v : Below pool ws from result a) where
+  abbrev Keeps : ℕ → Type 0
+  Keeps j = keeps_place pool new result (item_at ws j) ≡ true
+
+  kept : (m : ℕ) → ((j : ℕ) → a ≤ j → j < m → not (keeps_place pool new result (item_at ws j)) ≡ false) → (j : ℕ) → 0 ≤ j → j < 0 + m → Keeps j
+  kept m f j k l = elim (dec_lt j a) [
+    | yes p ↦ rw (s j k (omega (arith, v.within)), v.below j p)
+    | no p ↦ not-false (keeps_place pool new result (item_at ws j)) (f j (omega arith) (omega arith))
+  ]
+
+  stops : (m : ℕ) → m ≤ count → ((j : ℕ) → 0 ≤ j → j < 0 + m → Keeps j) → first_changed pool new result (items_from ws m (count - m)) ≡ 0
+      → m ≡ first_changed pool new result (items_from ws 0 count)
+  stops m l f z =
+      let e : m + (count - m) ≡ count = omega arith in
+      let o : 0 + m ≡ m = omega arith in
+      omega (arith, z, rw (e, o) at (first_skip pool ws new result 0 m (count - m) f))
+
+  pub first_by : (r : Option ℕ)
+      → MatchOption r ((j : ℕ) → a ≤ j → j < count → not (keeps_place pool new result (item_at ws j)) ≡ false) (First (range a count) (λ j. not (keeps_place pool new result (item_at ws j))))
+      → {n : ℕ} → n ≡ unwrap_or r count → n ≡ first_changed pool new result (items_from ws 0 count)
+  first_by None f e = rw e (stops count (omega arith) (kept count f) (first_end pool ws count count new result (omega arith)))
+  first_by (Some i) f e =
+      rw e
+      (stops i (omega (arith, f.below)) (kept i f.others)
+      (first_here pool ws i count new result f.below refl (not-true (keeps_place pool new result (item_at ws i)) f.passes)))
 
 -- ---- the tail
 

@@ -1,24 +1,17 @@
 -- What `insert_item` answers and writes: the checks, the room, the words. Definitions only. Assumes nothing.
-use Rattle.std.specs.Prelude.{ℕ, ◌-◌, ◌*◌, max, List, ◌++◌, cond, ◌||◌, length, drop, replicate, ltb}
+use Rattle.std.specs.Prelude.{ℕ, ◌-◌, ◌*◌, max, List, ◌++◌, cond, ◌||◌, length, drop, replicate, ltb, Ok}
 use Rattle.query_item.specs.declared.ItemWords.{ItemWords}
 use Rattle.query_item.specs.Items.{item_size, items_from, flat_all}
-use Rattle.item_check.specs.Checks.{Answer, answered, refused, and_then, words_by, refused_as, most_items}
+use Rattle.item_check.specs.Checks.{Answer, refused, and_then, words_by, most_items}
 use Rattle.item_lists.specs.Written.{passes}
 use Rattle.insert_order.specs.Refusals.{input_verdict}
-use Rattle.insert.specs.declared.Inserted.{Inserted}
-use Rattle.insert.specs.declared.Inserted.TheVariants as inserted
 use Rattle.insert.specs.Insertion as insertion
-
--- 01 form.11: the paper's numbers and values for each case of the answer: the new count, or the refusal
-abbrev pub inserted_of : Inserted → Answer ℕ
-inserted_of (inserted.Count n) = answered n
-inserted_of (inserted.Refused r) = refused_as r
 
 -- ---- the room
 
 -- 01 m5.9: 6 exactly if the final count exceeds the buffer or 2,048
 abbrev pub insert_room_answer : List ℕ → ℕ → Answer ℕ
-insert_room_answer ws n = cond (passes n ws || ltb most_items n) (refused 6 0 0) (answered n)
+insert_room_answer ws n = cond (passes n ws || ltb most_items n) (refused 6 0 0) (Ok n)
 
 -- ---- the words
 

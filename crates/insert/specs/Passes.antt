@@ -1,10 +1,10 @@
 -- What the passes over a list go by, an item at a time: what has to be asked, the first change, the moved tail. `proofs/` says that they give
 -- what Insertion.antt and Answers.antt define. It serves 01 m5.6, m5.7, m5.8. Assumes nothing.
+use Rattle.std.specs.Ordering.{is_lt}
 use Rattle.std.specs.Prelude.{ℕ, suc, ◌+◌, ◌*◌, ◌-◌, ◌/◌, ◌≤◌, ◌<◌, max, ◌≡◌, List, [], ◌∷◌, ◌++◌, Bool, true, false, cond, ◌&&◌, length, take, drop, replicate, ltb}
 use Rattle.std.proofs.Math.Seq.{slice}
-use Rattle.key_order.specs.Order.{is_less}
 use Rattle.query_item.specs.declared.ItemWords.{ItemWords}
-use Rattle.query_item.specs.Items.{item_size, item_at, items_from, item_words, absent, flat_all}
+use Rattle.query_item.specs.Items.{item_size, item_at, items_from, flat_all}
 use Rattle.insert_order.specs.Order.{compare_items}
 use Rattle.insert_merge.specs.declared.Fate.TheVariants.{Stays}
 use Rattle.insert_merge.specs.Merge.{fate_of, staying, is_staying}
@@ -14,13 +14,13 @@ use Rattle.insert.specs.Insertion.{placed}
 
 -- no item of the first count is below an earlier one
 abbrev pub Ascending : List ℕ → List ℕ → ℕ → Type 0
-Ascending pool ws count = (j k : ℕ) → j < k → k < count → is_less (compare_items pool (item_at ws k) (item_at ws j)) ≡ false
+Ascending pool ws count = (j k : ℕ) → j < k → k < count → is_lt (compare_items pool (item_at ws k) (item_at ws j)) ≡ false
 
 -- of the first count items n are below an item, and stand first
 pub record Below (pool ws : List ℕ) (count : ℕ) (it : ItemWords) (n : ℕ) : Type 0 where
   pub within : n ≤ count
-  pub below : (j : ℕ) → j < n → is_less (compare_items pool (item_at ws j) it) ≡ true
-  pub others : (j : ℕ) → n ≤ j → j < count → is_less (compare_items pool (item_at ws j) it) ≡ false
+  pub below : (j : ℕ) → j < n → is_lt (compare_items pool (item_at ws j) it) ≡ true
+  pub others : (j : ℕ) → n ≤ j → j < count → is_lt (compare_items pool (item_at ws j) it) ≡ false
 
 -- the items from an index up to another stay
 abbrev pub Stay : List ℕ → List ℕ → ItemWords → ℕ → ℕ → Type 0
@@ -37,7 +37,7 @@ pub record Asked (pool ws : List ℕ) (count : ℕ) (new : ItemWords) (from to :
 
 -- an item that stays and is below the result keeps its place
 abbrev pub keeps_place : List ℕ → ItemWords → ItemWords → ItemWords → Bool
-keeps_place pool new result it = is_staying (fate_of pool new it) && is_less (compare_items pool it result)
+keeps_place pool new result it = is_staying (fate_of pool new it) && is_lt (compare_items pool it result)
 
 -- how many items at the front do
 unfoldable pub first_changed : List ℕ → ItemWords → ItemWords → List ItemWords → ℕ
@@ -67,11 +67,7 @@ TailFits pool tail count asked new result =
 
 -- what goes out before the item in hand, where that is not placed yet
 abbrev pub goes_first : List ℕ → Bool → ItemWords → ItemWords → Bool
-goes_first pool is_placed it hand = cond is_placed false (is_less (compare_items pool it hand))
-
--- an item of zeros
-abbrev pub zero_item : ItemWords
-zero_item = item_words 0 0 absent absent
+goes_first pool is_placed it hand = cond is_placed false (is_lt (compare_items pool it hand))
 
 -- the front is a list's words, and what is past it and past the old count stands as it was
 pub record Moved (ws : List ℕ) (count : ℕ) (its : List ItemWords) (after : List ℕ) : Type 0 where

@@ -1,7 +1,7 @@
 -- Insertions one after the other, as callers make them, and which of two items stands before the other. Definitions only. Assumes nothing.
-use Rattle.std.specs.Prelude.{ℕ, ◌≡◌, List, [], ◌∷◌, ◌++◌}
+use Rattle.std.specs.Prelude.{ℕ, ◌≡◌, List, [], ◌∷◌, ◌++◌, Ok, Err}
 use Rattle.query_item.specs.declared.ItemWords.{ItemWords}
-use Rattle.item_check.specs.Checks.{Answer, answered, refused_as}
+use Rattle.item_check.specs.Checks.{Answer}
 use Rattle.insert.specs.Insertion.{inserted}
 use Rattle.insert.specs.Answers.{insert_answer, insert_words}
 
@@ -13,15 +13,15 @@ inserted_all pool (new ∷ news) its = inserted_all pool news (inserted pool new
 -- 02 §10.1: as calls: each on the words, and with the count, that the one before it left; a refusal ends them
 
 abbrev pub next_answer : Answer ℕ → (ℕ → Answer ℕ) → Answer ℕ
-next_answer (answered n) next = next n
-next_answer (refused_as r) next = refused_as r
+next_answer (Ok n) next = next n
+next_answer (Err r) next = Err r
 
 abbrev pub next_words : Answer ℕ → List ℕ → (ℕ → List ℕ) → List ℕ
-next_words (answered n) ws next = next n
-next_words (refused_as r) ws next = ws
+next_words (Ok n) ws next = next n
+next_words (Err r) ws next = ws
 
 unfoldable pub insert_all_answer : List ℕ → List ℕ → ℕ → List ItemWords → Answer ℕ
-insert_all_answer pool ws count [] = answered count
+insert_all_answer pool ws count [] = Ok count
 insert_all_answer pool ws count (new ∷ news) =
     next_answer (insert_answer pool ws count new) (λ n. insert_all_answer pool (insert_words pool ws count new) n news)
 

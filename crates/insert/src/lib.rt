@@ -13,65 +13,65 @@ ghost use Rattle.query_item.specs.Items.{item_size, items_from};
 ghost use Rattle.item_check.specs.Checks.{accepted};
 ghost use Rattle.insert_order.specs.Refusals.{input_verdict};
 ghost use Rattle.insert_merge.specs.Merge.{Finds};
-ghost use Rattle.insert.specs.Answers.{inserted_of, insert_answer, insert_words, checked_answer, checked_words};
+ghost use Rattle.insert.specs.Answers.{insert_answer, insert_words, checked_answer, checked_words};
 ghost use Rattle.insert.specs.Passes.{Asked};
 
 use crate::tail::{first_changed, rewrite};
 use crate::window::find_window;
 use insert_merge::{Found, find_merged};
 use insert_order::check_input;
-use item_check::{Checked, MOST_ITEMS, Refusal, refusal_of};
+use item_check::{MOST_ITEMS, Reason, Refusal, refuse};
 use item_words::ITEM_SIZE;
 use query_item::ItemWords;
+use std::ops::Range;
 
 mod tail;
 mod window;
 
-// What `insert_item` answers: the new count, or a refusal.
-#[derive(Clone, Copy)]
-pub enum Inserted {
-    Count(usize),
-    Refused(Refusal),
-}
-
 // Inserts an item into the list of the first count items of words. The answer is the new count; where it is a refusal no word has changed
 // (01 m5.1, m5.9, demand.1).
-pub fn insert_item(pool: &[u8], words: &mut [u32], count: usize, item: ItemWords) -> Inserted
-    ensures result_value { inserted_of result ≡ insert_answer pool.now words.old count item }
+pub fn insert_item(
+    pool: &[u8],
+    words: &mut [u32],
+    count: usize,
+    item: ItemWords,
+) -> Result<usize, Refusal>
+    ensures result_value { result ≡ insert_answer pool.now words.old count item }
     ensures words_after { words.new ≡ insert_words pool.now words.old count item }
 {
-    match check_input(pool, words, count, item) {
-        Checked::Refused(r) => Inserted::Refused(r),
-        Checked::Accepted => insert_checked(pool, words, count, item),
-    }
+    check_input(pool, words, count, item)?;
+    insert_checked(pool, words, count, item)
 }
 
 // The same of a list and an item that are checked already: what is left to refuse is want of room.
-fn insert_checked(pool: &[u8], words: &mut [u32], count: usize, item: ItemWords) -> Inserted
+fn insert_checked(
+    pool: &[u8],
+    words: &mut [u32],
+    count: usize,
+    item: ItemWords,
+) -> Result<usize, Refusal>
     requires { (count ≤ length words.old / item_size) × (input_verdict pool.now words.old count item ≡ accepted) }
-    ensures result_value { inserted_of result ≡ checked_answer pool.now words.old count item }
+    ensures result_value { result ≡ checked_answer pool.now words.old count item }
     ensures words_after { words.new ≡ checked_words pool.now words.old count item }
 {
     let window = find_window(pool, words, count, item);
-    let from = window.from;
-    let to = window.to;
-    let found = find_result(pool, words, count, item, from, to);
+    let found = find_result(pool, words, count, item, &window);
     let result = found.result;
     let after = found.stay + 1;
     if (words.len() / ITEM_SIZE < after) | (MOST_ITEMS < after) {
-        return Inserted::Refused(refusal_of(6, 0, 0));
+        return refuse(Reason::NoRoom, 0, 0);
     }
-    let first = first_changed(pool, words, count, from, item, result);
+    let first = first_changed(pool, words, count, window.start, item, result);
     let at = ITEM_SIZE * first;
     rewrite(
         pool,
         &mut words[at..],
         count - first,
-        less(to, first),
+        window.end.saturating_sub(first),
         item,
         result,
     );
-    Inserted::Count(after)
+    Ok(after)
 }
 
 // What the list comes to, by those of its items that have to be asked.
@@ -80,23 +80,14 @@ fn find_result(
     words: &[u32],
     count: usize,
     item: ItemWords,
-    from: usize,
-    to: usize,
+    window: &Range<usize>,
 ) -> Found
-    requires { Asked pool.now words.now count item from to }
+    requires { Asked pool.now words.now count item window.now.start window.now.end }
     ensures { Finds pool.now item (items_from words.now 0 count) result }
 {
-    let found = find_merged(pool, words, from, to, item);
-    let result = found.result;
+    let found = find_merged(pool, words, window.start, window.end, item);
     Found {
-        result,
-        stay: from + found.stay + (count - to),
+        stay: window.start + found.stay + (count - window.end),
+        ..found
     }
-}
-
-// The difference, 0 where there is none.
-fn less(x: usize, y: usize) -> usize
-    ensures { result ≡ x - y }
-{
-    if x < y { 0 } else { x - y }
 }

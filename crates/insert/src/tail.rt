@@ -2,14 +2,13 @@
 ghost use Rattle.std.specs.Prelude.{◌≡◌, ◌*◌, ◌/◌, ◌≤◌, ◌<◌, length};
 ghost use Rattle.query_item.specs.Items.{item_size, items_from};
 ghost use Rattle.insert.specs.Answers.{laid};
-ghost use Rattle.insert.specs.Passes.{Ascending, Stay, keeps_place, first_changed, stays_at, pick, tail_after, TailFits, goes_first, zero_item, Moved, raised, cleared};
+ghost use Rattle.insert.specs.Passes.{Ascending, Stay, keeps_place, first_changed, stays_at, pick, tail_after, TailFits, goes_first, Moved, raised, cleared};
 
 use crate::window::count_below;
 use insert_merge::{fate_of, is_staying};
 use insert_order::compare_items;
-use item_words::{ITEM_SIZE, item_at, make_item, write_item};
-use key_order::is_less;
-use query_item::{ItemWords, KeyAt};
+use item_words::{ITEM_SIZE, item_at, write_item};
+use query_item::ItemWords;
 
 // How many items at the front stay where they are. Those before the index from all stay: of them the ones below the result do.
 pub(crate) fn first_changed(
@@ -23,20 +22,16 @@ pub(crate) fn first_changed(
     requires { (from ≤ count) × Ascending pool.now words.now count × Stay pool.now words.now item 0 from }
     ensures { result ≡ first_changed pool.now item res (items_from words.now 0 count) }
 {
-    let mut i = count_below(pool, words, from, res);
-    while i < count {
-        if !keeps_place(pool, item, res, item_at(words, i)) {
-            return i;
-        }
-        i += 1;
-    }
-    i
+    let below = count_below(pool, words, from, res);
+    (below..count)
+        .find(|i| !keeps_place(pool, item, res, item_at(words, *i)))
+        .unwrap_or(count)
 }
 
 fn keeps_place(pool: &[u8], item: ItemWords, res: ItemWords, old: ItemWords) -> bool
     ensures { result ≡ keeps_place pool.now item res old }
 {
-    is_staying(fate_of(pool, item, old)) & is_less(compare_items(pool, old, res))
+    is_staying(fate_of(pool, item, old)) & compare_items(pool, old, res).is_lt()
 }
 
 // Takes out what does not stay of count items, puts the result in, and sets the words that this frees to 0. From the index asked on all stay.
@@ -72,23 +67,20 @@ fn move_items(
     let mut hand = res;
     let mut is_placed = false;
     let mut to: usize = 0;
-    let mut i: usize = 0;
-    while (i < count) & !(is_placed & (asked <= i) & (to == i)) {
+    for i in 0..count {
+        if is_placed & (asked <= i) & (to == i) {
+            shift_up(tail, i, count);
+            write_item(tail, to, hand);
+            return count + 1;
+        }
         let old = item_at(tail, i);
-        let stays = stays_at(pool, i, asked, item, old);
-        i += 1;
-        if stays {
+        if stays_at(pool, i, asked, item, old) {
             let first = goes_first(pool, is_placed, old, hand);
             write_item(tail, to, pick_item(first, old, hand));
             hand = pick_item(first, hand, old);
             is_placed = !first;
             to += 1;
         }
-    }
-    if i < count {
-        shift_up(tail, i, count);
-        write_item(tail, to, hand);
-        return count + 1;
     }
     write_item(tail, to, hand);
     to + 1
@@ -99,12 +91,8 @@ fn shift_up(tail: &mut [u32], from: usize, count: usize)
     requires { (from ≤ count) × (count < length tail.old / item_size) }
     ensures { tail.new ≡ raised tail.old (item_size * from) (item_size * count) }
 {
-    let stop = ITEM_SIZE * from;
-    let mut k = ITEM_SIZE * count;
-    while stop < k {
-        k -= 1;
-        tail[k + ITEM_SIZE] = tail[k];
-    }
+    let at = ITEM_SIZE * from;
+    tail.copy_within(at..ITEM_SIZE * count, at + ITEM_SIZE);
 }
 
 // Whether the item at the index i stays, one before the index asked by its fate.
@@ -123,9 +111,10 @@ fn goes_first(pool: &[u8], is_placed: bool, old: ItemWords, hand: ItemWords) -> 
     if is_placed {
         return false;
     }
-    is_less(compare_items(pool, old, hand))
+    compare_items(pool, old, hand).is_lt()
 }
 
+// One of two items: std has no name for this choice, and it is made twice.
 fn pick_item(t: bool, x: ItemWords, y: ItemWords) -> ItemWords
     ensures { result ≡ pick t x y }
 {
@@ -137,19 +126,7 @@ fn clear_items(tail: &mut [u32], from: usize, to: usize)
     requires { (from ≤ length tail.old / item_size) × (to ≤ length tail.old / item_size) }
     ensures { tail.new ≡ cleared tail.old from to }
 {
-    let mut i = from;
-    while i < to {
-        write_item(tail, i, zero_item());
-        i += 1;
+    if from < to {
+        tail[ITEM_SIZE * from..ITEM_SIZE * to].fill(0);
     }
-}
-
-fn zero_item() -> ItemWords
-    ensures { result ≡ zero_item }
-{
-    let none = KeyAt {
-        offset: 0,
-        length: 0,
-    };
-    make_item(0, 0, none, none)
 }

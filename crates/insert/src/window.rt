@@ -6,26 +6,16 @@ ghost use Rattle.insert.specs.Passes.{Ascending, Below, Stay, Asked};
 
 use insert_order::{compare_items, ends_below, is_plain};
 use item_words::item_at;
-use key_order::is_less;
 use query_item::ItemWords;
-
-// The items from an index up to another.
-#[derive(Clone, Copy)]
-pub(crate) struct Window {
-    pub(crate) from: usize,
-    pub(crate) to: usize,
-}
+use std::ops::Range;
 
 // The items to ask: those before and past them stay.
-pub(crate) fn find_window(pool: &[u8], words: &[u32], count: usize, item: ItemWords) -> Window
+pub(crate) fn find_window(pool: &[u8], words: &[u32], count: usize, item: ItemWords) -> Range<usize>
     requires { input_verdict pool.now words.now count item ≡ accepted }
-    ensures { Asked pool.now words.now count item result.from result.to }
+    ensures { Asked pool.now words.now count item result.start result.end }
 {
     let place = count_below(pool, words, count, item);
-    Window {
-        from: first_asked(pool, words, count, place, item),
-        to: past_asked(pool, words, count, place, item),
-    }
+    first_asked(pool, words, count, place, item)..past_asked(pool, words, count, place, item)
 }
 
 // How many of the first count items of an ascending list are below an item: half of what is left is told by one of them.
@@ -35,9 +25,10 @@ pub(crate) fn count_below(pool: &[u8], words: &[u32], count: usize, item: ItemWo
 {
     let mut low: usize = 0;
     let mut high = count;
+    // no `partition_point`: it wants a slice of items, and here they are words, six to an item, of which every law speaks by index
     while low < high {
         let mid = low + (high - low) / 2;
-        if is_less(compare_items(pool, item_at(words, mid), item)) {
+        if compare_items(pool, item_at(words, mid), item).is_lt() {
             low = mid + 1;
         } else {
             high = mid;
@@ -54,18 +45,14 @@ fn first_asked(pool: &[u8], words: &[u32], count: usize, place: usize, item: Ite
     if !is_plain(item) {
         return place;
     }
-    let mut i = place;
-    while 0 < i {
-        i -= 1;
-        let old = item_at(words, i);
-        if is_plain(old) {
-            if ends_below(pool, old, item) {
-                return place;
-            }
-            return i;
-        }
+    let Some(i) = (0..place).rfind(|i| is_plain(item_at(words, *i))) else {
+        return place;
+    };
+    if ends_below(pool, item_at(words, i), item) {
+        place
+    } else {
+        i
     }
-    place
 }
 
 // The first item from a place on that starts above the end of the new one: all later ones start no lower.
@@ -73,12 +60,7 @@ fn past_asked(pool: &[u8], words: &[u32], count: usize, place: usize, item: Item
     requires { (input_verdict pool.now words.now count item ≡ accepted) × (place ≤ count) }
     ensures { (place ≤ result) × (result ≤ count) × Stay pool.now words.now item result count }
 {
-    let mut i = place;
-    while i < count {
-        if ends_below(pool, item, item_at(words, i)) {
-            return i;
-        }
-        i += 1;
-    }
-    i
+    (place..count)
+        .find(|i| ends_below(pool, item, item_at(words, *i)))
+        .unwrap_or(count)
 }

@@ -1,5 +1,7 @@
 -- A result is converted where anything merged: it then shows what its boundaries tell. Where nothing merged the new item stays as it is, and
 -- may be written otherwise, as [05,05] is for Key 05 (reading A8). Assumes nothing.
+use Rattle.query_item.specs.declared.QueryItem.{QueryItem}
+use Rattle.std.specs.Prelude.{Option, None, Some}
 use Prim.Native.Nat.{ℕ}
 use mathlib.Core.Path.{◌≡◌, refl, sym, ap, ◌∙◌}
 use mathlib.Core.Bool.{true}
@@ -12,8 +14,6 @@ use Rattle.key_order.proofs.Impossible.{impossible}
 use Rattle.key_order.proofs.Line.{size}
 use Rattle.query_item.specs.declared.ItemWords.{ItemWords}
 use Rattle.query_item.specs.declared.RangeSet.{RangeSet}
-use Rattle.query_item.specs.declared.MaybeItem.{MaybeItem}
-use Rattle.query_item.specs.declared.MaybeItem.TheVariants.{NoItem, Item}
 use Rattle.query_item.specs.Items.{shown, SameShown}
 use Rattle.query_item.specs.Boundaries.{boundary_of, compare_in, range_of, to_query_item}
 use Rattle.query_item.proofs.Laws.{query_words, Keeps, item_keeps, told, Tells, item_told, shown_range, told_same}
@@ -40,10 +40,10 @@ module _ (pool : List ℕ) where
       let r = hull pool (range_of cur) (range_of it) in
       go r (to_query_item pool r) (item_told pool r.start r.end u.starts u.ends) (item_keeps pool r.start r.end)
     where
-      go : (r : RangeSet) (m : MaybeItem) → Tells pool r.start r.end m → Keeps pool r.start r.end m
+      go : (r : RangeSet) (m : Option QueryItem) → Tells pool r.start r.end m → Keeps pool r.start r.end m
           → Shows r (plain_item cur m) × Converted (plain_item cur m)
-      go r NoItem t v = absurd t
-      go r (Item q) t v = (t, rw (query_words 0 q, v.0, v.1) t)
+      go r None t v = absurd t
+      go r (Some q) t v = (t, rw (query_words 0 q, v.0, v.1) t)
 
   -- the result is converted, or nothing merged
   pub converted_or_alone : (new cur : ItemWords) (its : List ItemWords) → Converted (merged_with pool new cur its) ⊎ Alone pool new its

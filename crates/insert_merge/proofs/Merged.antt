@@ -1,5 +1,9 @@
 -- What the fates of items say and go by, and the ranks of what merges: from the smaller start to the larger end. Ranks as in the Ranked.antt
 -- of `insert_order`. Assumes nothing.
+use Rattle.query_item.specs.declared.QueryItem.{QueryItem}
+use Rattle.std.specs.Prelude.{Option, None, Some}
+use Rattle.std.specs.declared.cmp.Ordering.{Ordering}
+use Rattle.std.specs.declared.cmp.Ordering.TheVariants.{Less, Equal, Greater}
 use Prim.Native.Nat.{ℕ, ◌≤◌, ◌<◌, min, max}
 use mathlib.Core.Path.{◌≡◌, refl, sym, ap, ◌∙◌}
 use mathlib.Core.Bool.{Bool, true, false, cond, not, ◌||◌, ◌&&◌, and_comm, or_comm}
@@ -8,16 +12,12 @@ use mathlib.Core.List.{List, [], ◌∷◌}
 use native.Mathlib.Omega.{arith}
 use borrow.Author.Tests.{ltb-true, ltb-false, lt-ltb}
 use Rattle.key_order.proofs.Impossible.{impossible}
-use Rattle.key_order.specs.declared.Ordering.{Ordering}
-use Rattle.key_order.specs.declared.Ordering.TheVariants.{Less, Equal, Greater}
 use Rattle.key_order.specs.Order.{smaller}
 use Rattle.key_order.proofs.Numbers.{Says}
 use Rattle.key_order.proofs.Line.{size}
 use Rattle.key_order.proofs.Ranks.{rank}
 use Rattle.query_item.specs.declared.ItemWords.{ItemWords}
 use Rattle.query_item.specs.declared.RangeSetItem.{RangeSetItem}
-use Rattle.query_item.specs.declared.MaybeItem.{MaybeItem}
-use Rattle.query_item.specs.declared.MaybeItem.TheVariants.{NoItem, Item}
 use Rattle.query_item.specs.Items.{query_item, Shown, shown}
 use Rattle.query_item.specs.Boundaries.{boundary_of, compare_in, range_of, item_between}
 use Rattle.query_item.proofs.Laws.{query_words, wrapper_words, Keeps, item_keeps, Starts, Ends, Tells, item_told, item_sides}
@@ -155,9 +155,9 @@ module _ (n : ℕ) (pool : List ℕ) where
   unfolding rk
   item_spans cur s e h k = go (item_between pool s e) (item_told pool s e h k) (item_keeps pool s e)
     where
-      go : (m : MaybeItem) → Tells pool s e m → Keeps pool s e m → Spans (plain_item cur m) (R s) (R e)
-      go NoItem t v = absurd t
-      go (Item q) t v = rw (query_words 0 q) (ap (rank n) v.0, ap (rank n) v.1, rw (wrapper_words 0 q))
+      go : (m : Option QueryItem) → Tells pool s e m → Keeps pool s e m → Spans (plain_item cur m) (R s) (R e)
+      go None t v = absurd t
+      go (Some q) t v = rw (query_words 0 q) (ap (rank n) v.0, ap (rank n) v.1, rw (wrapper_words 0 q))
 
   module _ (h : size pool ≤ n) where
     smaller_start_lem : (new old : RangeSetItem) → Starts new → Starts old → Starts (smaller_start pool new old) × (R (smaller_start pool new old) ≡ min (R new) (R old))

@@ -8,8 +8,9 @@ use lib.ListN.{length}
 use Rattle.query_item.specs.declared.ItemWords.{ItemWords}
 use Rattle.query_item.specs.Items.{item_at, items_from}
 use Rattle.item_check.proofs.Scans.{items_end, items_more}
+use Rattle.std.specs.Int.{from_bool}
 use Rattle.insert_merge.specs.declared.Fate.{Fate}
-use Rattle.insert_merge.specs.Merge.{fate_of, staying, merge_by, merged_with, is_staying, one_if}
+use Rattle.insert_merge.specs.Merge.{fate_of, staying, merge_by, merged_with, is_staying}
 use Rattle.insert_merge.proofs.Staying.{length_keep}
 
 module _ (pool ws : List ℕ) (i count : ℕ) where
@@ -30,7 +31,7 @@ module _ (pool ws : List ℕ) (i count : ℕ) where
   -- ---- how many stay
 
   pub stay_more : (new : ItemWords) {old : ItemWords} {fate : Fate} {t : Bool} {n : ℕ} → i < count → old ≡ item_at ws i → fate ≡ fate_of pool new old
-      → t ≡ is_staying fate → n ≡ one_if t → length (staying pool new (left i)) ≡ n + length (staying pool new (left (i + 1)))
+      → t ≡ is_staying fate → n ≡ from_bool t → length (staying pool new (left i)) ≡ n + length (staying pool new (left (i + 1)))
   unfolding staying
   stay_more new h p q r s =
       rw (s, r, q, p, items_more ws i count h) (length_keep (fate_of pool new (item_at ws i)) (item_at ws i) (staying pool new (left (i + 1))))

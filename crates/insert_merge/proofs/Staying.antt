@@ -12,18 +12,19 @@ use Rattle.query_item.specs.declared.ItemWords.{ItemWords}
 use Rattle.query_item.specs.Items.{shown, SameShown}
 use Rattle.insert_order.proofs.Ranked.{item_rank}
 use Rattle.insert_order.proofs.Ordered.{Among, Pairwise, Sorted}
+use Rattle.std.specs.Int.{from_bool}
 use Rattle.insert_merge.specs.declared.Fate.{Fate}
 use Rattle.insert_merge.specs.declared.Fate.TheVariants.{Replaced, Stays, Merges}
-use Rattle.insert_merge.specs.Merge.{fate_of, keep_by, staying, merge_by, merged_with, is_staying, one_if}
+use Rattle.insert_merge.specs.Merge.{fate_of, keep_by, staying, merge_by, merged_with, is_staying}
 use Rattle.insert_merge.proofs.Merged.{fate_shown}
 
 -- an item that stays is one more
-pub length_keep : (f : Fate) (it : ItemWords) (its : List ItemWords) → length (keep_by f it its) ≡ one_if (is_staying f) + length its
+pub length_keep : (f : Fate) (it : ItemWords) (its : List ItemWords) → length (keep_by f it its) ≡ from_bool (is_staying f) + length its
 length_keep Replaced it its = omega arith
 length_keep Stays it its = omega arith
 length_keep Merges it its = omega arith
 
-pub one_at_most : (t : Bool) {n : ℕ} → n ≡ one_if t → n ≤ 1
+pub one_at_most : (t : Bool) {n : ℕ} → n ≡ from_bool t → n ≤ 1
 one_at_most true e = omega arith
 one_at_most false e = omega arith
 

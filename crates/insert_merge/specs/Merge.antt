@@ -1,11 +1,10 @@
 -- Insertion into a list of items: what becomes of each of its items, and what merges. Definitions only. Assumes nothing.
-use Rattle.std.specs.Prelude.{ℕ, ◌≡◌, List, [], ◌∷◌, Bool, true, false, cond, not, ◌||◌, ◌&&◌, length}
+use Rattle.query_item.specs.declared.QueryItem.{QueryItem}
+use Rattle.std.specs.Prelude.{ℕ, ◌≡◌, List, [], ◌∷◌, Bool, true, false, cond, not, ◌||◌, ◌&&◌, length, Option, None, Some}
 use Rattle.key_order.specs.Order.{smaller}
 use Rattle.query_item.specs.declared.ItemWords.{ItemWords}
 use Rattle.query_item.specs.declared.RangeSetItem.{RangeSetItem}
 use Rattle.query_item.specs.declared.RangeSet.{RangeSet}
-use Rattle.query_item.specs.declared.MaybeItem.{MaybeItem}
-use Rattle.query_item.specs.declared.MaybeItem.TheVariants.{NoItem, Item}
 use Rattle.query_item.specs.Items.{words_of}
 use Rattle.query_item.specs.Boundaries.{compare_in, from_to, range_of, to_query_item}
 use Rattle.insert_order.specs.Order.{plain, same_item, ends_below}
@@ -36,14 +35,11 @@ unfoldable pub staying : List ℕ → ItemWords → List ItemWords → List Item
 staying pool new [] = []
 staying pool new (it ∷ its) = keep_by (fate_of pool new it) it (staying pool new its)
 
--- 01 m5.2: the same, an item at a time: whether it stays, and how many that are
+-- 01 m5.2: the same, an item at a time: whether it stays
 abbrev pub is_staying : Fate → Bool
 is_staying Replaced = false
 is_staying Stays = true
 is_staying Merges = false
-
-abbrev pub one_if : Bool → ℕ
-one_if b = cond b 1 0
 
 -- ---- the result
 
@@ -59,9 +55,9 @@ abbrev pub hull : List ℕ → RangeSet → RangeSet → RangeSet
 hull pool new old = from_to (smaller_start pool new.start old.start) (larger_end pool new.end old.end)
 
 -- 01 m5.4: converted; two plain items that merge always make one
-abbrev pub plain_item : ItemWords → MaybeItem → ItemWords
-plain_item it NoItem = it
-plain_item it (Item q) = words_of 0 q
+abbrev pub plain_item : ItemWords → Option QueryItem → ItemWords
+plain_item it None = it
+plain_item it (Some q) = words_of 0 q
 
 unfoldable pub merged : List ℕ → ItemWords → ItemWords → ItemWords
 merged pool new old = plain_item new (to_query_item pool (hull pool (range_of new) (range_of old)))

@@ -9,13 +9,12 @@
 ghost use Rattle.std.specs.Prelude.{◌≡◌, ◌&&◌, ◌-◌};
 ghost use Rattle.query_item.specs.Items.{items_from};
 ghost use Rattle.insert_order.specs.Order.{plain};
-ghost use Rattle.insert_merge.specs.Merge.{disjoint, fate_of, smaller_start, larger_end, hull, plain_item, merged, merge_by, is_staying, one_if, Finds};
+ghost use Rattle.insert_merge.specs.Merge.{disjoint, fate_of, smaller_start, larger_end, hull, merged, merge_by, is_staying, Finds};
 
 use insert_order::{ends_below, is_plain, is_same, range_of};
 use item_words::{item_at, words_of};
-use key_order::Ordering;
 use query_item::pooled::compare_in;
-use query_item::{ItemWords, MaybeItem, RangeSet, RangeSetItem};
+use query_item::{ItemWords, RangeSet, RangeSetItem};
 
 // What becomes of an item of the list: the new one takes its place, it stays, or it is merged with the new one.
 #[derive(Clone, Copy)]
@@ -38,18 +37,17 @@ pub fn find_merged(pool: &[u8], words: &[u32], from: usize, to: usize, item: Ite
 {
     let mut result = item;
     let mut stay: usize = 0;
-    let mut i = from;
-    while i < to {
+    for i in from..to {
         let old = item_at(words, i);
         let fate = fate_of(pool, item, old);
         result = merge_by(pool, fate, result, old);
-        stay += one_if(is_staying(fate));
-        i += 1;
+        stay += usize::from(is_staying(fate));
     }
     Found { result, stay }
 }
 
 // inner: what becomes of an item where a new one is inserted.
+#[tactic(auto, unfolding(crate::specs::Merge::fate_of))]
 pub fn fate_of(pool: &[u8], item: ItemWords, old: ItemWords) -> Fate
     ensures { result ≡ fate_of pool.now item old }
 {
@@ -82,60 +80,35 @@ fn is_disjoint(pool: &[u8], x: ItemWords, y: ItemWords) -> bool
 pub fn is_staying(fate: Fate) -> bool
     ensures { result ≡ is_staying fate }
 {
-    match fate {
-        Fate::Replaced => false,
-        Fate::Stays => true,
-        Fate::Merges => false,
-    }
-}
-
-fn one_if(b: bool) -> usize
-    ensures { result ≡ one_if b }
-{
-    if b { 1 } else { 0 }
+    matches!(fate, Fate::Stays)
 }
 
 fn merge_by(pool: &[u8], fate: Fate, cur: ItemWords, old: ItemWords) -> ItemWords
     ensures { result ≡ merge_by pool.now fate cur old }
 {
     match fate {
-        Fate::Replaced => cur,
-        Fate::Stays => cur,
+        Fate::Replaced | Fate::Stays => cur,
         Fate::Merges => merge(pool, cur, old),
     }
 }
 
-// The plain item from the smaller start to the larger end.
+// The plain item from the smaller start to the larger end. The two boundaries always make one.
+#[tactic(auto, unfolding(crate::specs::Merge::merged))]
 fn merge(pool: &[u8], cur: ItemWords, old: ItemWords) -> ItemWords
     ensures { result ≡ merged pool.now cur old }
 {
-    plain_item(
-        cur,
-        hull_of(pool, range_of(cur), range_of(old)).to_query_item(pool),
-    )
-}
-
-// The words of the item that two boundaries make. Those of a hull always make one.
-fn plain_item(cur: ItemWords, maybe: MaybeItem) -> ItemWords
-    ensures { result ≡ plain_item cur maybe }
-{
-    match maybe {
-        MaybeItem::NoItem => cur,
-        MaybeItem::Item(q) => words_of(0, q),
-    }
+    hull_of(pool, range_of(cur), range_of(old))
+        .to_query_item(pool)
+        .map_or(cur, |item| words_of(0, item))
 }
 
 // From the smaller start to the larger end.
 fn hull_of(pool: &[u8], new: RangeSet, old: RangeSet) -> RangeSet
     ensures { result ≡ hull pool.now new old }
 {
-    let s = new.start;
-    let t = old.start;
-    let e = new.end;
-    let f = old.end;
     RangeSet {
-        start: smaller_start(pool, s, t),
-        end: larger_end(pool, e, f),
+        start: smaller_start(pool, new.start, old.start),
+        end: larger_end(pool, new.end, old.end),
     }
 }
 
@@ -143,10 +116,10 @@ fn hull_of(pool: &[u8], new: RangeSet, old: RangeSet) -> RangeSet
 fn smaller_start(pool: &[u8], new_start: RangeSetItem, old_start: RangeSetItem) -> RangeSetItem
     ensures { result ≡ smaller_start pool.now new_start old_start }
 {
-    match compare_in(pool, old_start, new_start) {
-        Ordering::Less => old_start,
-        Ordering::Equal => new_start,
-        Ordering::Greater => new_start,
+    if compare_in(pool, old_start, new_start).is_lt() {
+        old_start
+    } else {
+        new_start
     }
 }
 
@@ -154,9 +127,9 @@ fn smaller_start(pool: &[u8], new_start: RangeSetItem, old_start: RangeSetItem) 
 fn larger_end(pool: &[u8], new_end: RangeSetItem, old_end: RangeSetItem) -> RangeSetItem
     ensures { result ≡ larger_end pool.now new_end old_end }
 {
-    match compare_in(pool, new_end, old_end) {
-        Ordering::Less => old_end,
-        Ordering::Equal => new_end,
-        Ordering::Greater => new_end,
+    if compare_in(pool, new_end, old_end).is_lt() {
+        old_end
+    } else {
+        new_end
     }
 }

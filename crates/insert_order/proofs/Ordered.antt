@@ -1,5 +1,6 @@
 -- A list in order, by its pairs: no item clashes with a later one. An accepted list is one, and in ranks its items are sorted and its plain
 -- items lie apart. Assumes nothing.
+use Rattle.std.specs.Ordering.{is_lt}
 use Prim.Native.Nat.{ℕ, zero, suc, ◌+◌, ◌≤◌, ◌<◌}
 use mathlib.Core.Path.{◌≡◌, refl, sym, ap, ◌∙◌}
 use mathlib.Core.Bool.{Bool, true, false, cond, not, ◌&&◌}
@@ -10,7 +11,6 @@ use native.Mathlib.Nat.{le_refl}
 use native.Mathlib.Decide.{dec_lt}
 use borrow.Author.Tests.{ltb-true, ltb-false}
 use Rattle.key_order.proofs.Impossible.{impossible}
-use Rattle.key_order.specs.Order.{is_less}
 use Rattle.key_order.proofs.Bools.{both_false}
 use Rattle.key_order.proofs.Line.{size}
 use Rattle.query_item.specs.declared.ItemWords.{ItemWords}
@@ -119,7 +119,7 @@ module _ (pool : List ℕ) where
   -- what an item and a later one that it does not clash with have
   pub clash_says : (x y : ItemWords) → clash pool x y ≡ false → (K x ≤ K y) × (plain x ≡ true → plain y ≡ true → E x < S y)
   clash_says x y e =
-      let p = none_of_three (is_less (compare_items pool y x)) (plain x && plain y && not (ends_below pool x y)) (same_item pool x y) e in (
+      let p = none_of_three (is_lt (compare_items pool y x)) (plain x && plain y && not (ends_below pool x y)) (same_item pool x y) e in (
         ltb-false (K y) (K x) (sym (order_less (size pool) pool fits y x) ∙ p.0),
         λ s t. ltb-true (E x) (S y) (sym (ends_less (size pool) pool fits x y) ∙ go (plain x) (plain y) (ends_below pool x y) s t p.1),
       )

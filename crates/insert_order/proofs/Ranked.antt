@@ -1,5 +1,8 @@
 -- Items on the line of ranks: each has the rank of its start, the rank of its end, and one rank of its own by which the order of items is
 -- that of numbers. Ranks are taken at an n that is no less than the pool's size, so that every key of the pool fits. Assumes nothing.
+use Rattle.std.specs.declared.cmp.Ordering.{Ordering}
+use Rattle.std.specs.declared.cmp.Ordering.TheVariants.{Less, Equal, Greater}
+use Rattle.std.specs.Ordering.{is_lt}
 use Prim.Native.Nat.{ℕ, ◌+◌, ◌*◌, ◌≤◌, ◌<◌}
 use mathlib.Core.Path.{◌≡◌, refl, sym, ap, ◌∙◌}
 use mathlib.Core.Bool.{Bool, true, false, ◌&&◌}
@@ -9,9 +12,7 @@ use native.Mathlib.Decide.{dec_lt}
 use native.Mathlib.Nat.{mul-le-mul_right}
 use lib.Dec.{eqb, ltb}
 use borrow.Author.Tests.{eqb-true, eq-eqb}
-use Rattle.key_order.specs.declared.Ordering.{Ordering}
-use Rattle.key_order.specs.declared.Ordering.TheVariants.{Less, Equal, Greater}
-use Rattle.key_order.specs.Order.{then_by, is_less}
+use Rattle.key_order.specs.Order.{then_by}
 use Rattle.key_order.proofs.Bools.{both_true}
 use Rattle.key_order.proofs.Numbers.{Says, says_less}
 use Rattle.key_order.proofs.Laws.{compare_same}
@@ -136,7 +137,7 @@ module _ (n : ℕ) (pool : List ℕ) where
         go Equal l Greater s = rw l (omega arith)
         go Greater l r s = omega (arith, mul-le-mul_right top l, rk_bound (range_of y).end)
 
-    pub order_less : (x y : ItemWords) → is_less (compare_items pool x y) ≡ ltb (item_rank x) (item_rank y)
+    pub order_less : (x y : ItemWords) → is_lt (compare_items pool x y) ≡ ltb (item_rank x) (item_rank y)
     order_less x y = says_less (compare_items pool x y) (item_rank x) (item_rank y) (order_says x y)
 
     pub ends_less : (x y : ItemWords) → ends_below pool x y ≡ ltb (hi x) (lo y)

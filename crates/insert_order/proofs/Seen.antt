@@ -1,6 +1,9 @@
 -- The check of the order, a turn at a time: in a prefix that is in order the quick test of an item is the test with all earlier ones. Of
 -- the earlier ones the last has the largest rank, items before the run have smaller ranks, and the last plain one starts above the ends of
 -- the other plain ones. Assumes nothing.
+use Rattle.std.specs.declared.cmp.Ordering.{Ordering}
+use Rattle.std.specs.declared.cmp.Ordering.TheVariants.{Less, Equal, Greater}
+use Rattle.std.specs.Ordering.{is_lt, is_gt}
 use Prim.Native.Nat.{ℕ, zero, suc, ◌+◌, ◌-◌, ◌≤◌, ◌<◌}
 use mathlib.Core.Path.{◌≡◌, refl, sym, ◌∙◌}
 use mathlib.Core.Bool.{Bool, true, false, cond, not, ◌||◌, ◌&&◌, or-true}
@@ -12,9 +15,6 @@ use native.Mathlib.Decide.{dec_lt}
 use lib.Dec.{eqb}
 use borrow.Author.Tests.{ltb-true, lt-ltb, le-ltb, not-false, eqb-true}
 use Rattle.key_order.proofs.Impossible.{impossible}
-use Rattle.key_order.specs.declared.Ordering.{Ordering}
-use Rattle.key_order.specs.declared.Ordering.TheVariants.{Less, Equal, Greater}
-use Rattle.key_order.specs.Order.{is_less, is_greater}
 use Rattle.key_order.proofs.Bools.{both_false}
 use Rattle.key_order.proofs.Numbers.{Says}
 use Rattle.key_order.proofs.Line.{size}
@@ -68,10 +68,10 @@ module _ (pool : List ℕ) where
   clash_order e it h = rw (order_less (size pool) pool (le_refl (size pool)) it e, lt-ltb (K it) (K e) h)
 
   pub clash_same : (e it : ItemWords) → same_item pool e it ≡ true → clash pool e it ≡ true
-  clash_same e it h = rw h (or-true (is_less (compare_items pool it e) || (plain e && plain it && not (ends_below pool e it))))
+  clash_same e it h = rw h (or-true (is_lt (compare_items pool it e) || (plain e && plain it && not (ends_below pool e it))))
 
   pub clash_plain : (e it : ItemWords) → plain e ≡ true → plain it && not (ends_below pool e it) ≡ true → clash pool e it ≡ true
-  clash_plain e it h k = rw (h, k, or-true (is_less (compare_items pool it e)))
+  clash_plain e it h k = rw (h, k, or-true (is_lt (compare_items pool it e)))
 
 module _ (pool ws : List ℕ) where
   -- the items before an index, the last first
@@ -143,7 +143,7 @@ module _ (pool ws : List ℕ) where
   last_says zero it e h = absurd (omega arith)
   last_says (suc i) it e h = let s : suc i - 1 ≡ i = omega arith in rw (e, s) (order_says (size pool) pool (le_refl (size pool)) (at i) it)
 
-  no_greater : (i : ℕ) (it : ItemWords) {o : Ordering} → o ≡ last_order pool ws i it → is_greater o ≡ true → 0 < i
+  no_greater : (i : ℕ) (it : ItemWords) {o : Ordering} → o ≡ last_order pool ws i it → is_gt o ≡ true → 0 < i
   unfolding last_order
   no_greater zero it e h = true_false false (rw e at h) refl
   no_greater (suc i) it e h = omega arith
@@ -161,15 +161,15 @@ module _ (pool ws : List ℕ) where
     pub quick_some : quick_clash pool ws o run' p i it ≡ true → clashes pool (earlier i) it ≡ true
     unfolding meets_plain
     quick_some t =
-        some_of_three (is_greater o) (meets_plain pool ws p it) (repeats pool (items_from ws run' (i - run')) it) t falls (meets p refl)
+        some_of_three (is_gt o) (meets_plain pool ws p it) (repeats pool (items_from ws run' (i - run')) it) t falls (meets p refl)
         (repeats_some it i run' (i - run') (omega (arith, run_bound)))
       where
-        falls : is_greater o ≡ true → clashes pool (earlier i) it ≡ true
+        falls : is_gt o ≡ true → clashes pool (earlier i) it ≡ true
         falls g =
             let more = no_greater i it e g in
             clash_some it i (i - 1) (omega arith) (clash_order pool (at (i - 1)) it (go o g (last_says i it e more)))
           where
-            go : (x : Ordering) → is_greater x ≡ true → Says x (K pool (at (i - 1))) (K pool it) → K pool it < K pool (at (i - 1))
+            go : (x : Ordering) → is_gt x ≡ true → Says x (K pool (at (i - 1))) (K pool it) → K pool it < K pool (at (i - 1))
             go Less h s = true_false false h refl
             go Equal h s = true_false false h refl
             go Greater h s = s
@@ -190,7 +190,7 @@ module _ (pool ws : List ℕ) where
     pub quick_none : quick_clash pool ws o run' p i it ≡ false → Clear
     unfolding meets_plain
     quick_none t =
-        let q = none_of_three (is_greater o) (meets_plain pool ws p it) (repeats pool (items_from ws run' (i - run')) it) t in
+        let q = none_of_three (is_gt o) (meets_plain pool ws p it) (repeats pool (items_from ws run' (i - run')) it) t in
         record {
           above = above q;
           above_run = above_run q;
@@ -199,12 +199,12 @@ module _ (pool ws : List ℕ) where
         }
       where
         Parts : Type 0
-        Parts = (is_greater o ≡ false) × (meets_plain pool ws p it ≡ false) × (repeats pool (items_from ws run' (i - run')) it ≡ false)
+        Parts = (is_gt o ≡ false) × (meets_plain pool ws p it ≡ false) × (repeats pool (items_from ws run' (i - run')) it ≡ false)
 
         above : Parts → (j : ℕ) → j < i → K pool (at j) ≤ K pool it
         above q j h = omega (arith, v.sorted j h, go o q.0 (last_says i it e (omega arith)))
           where
-            go : (x : Ordering) → is_greater x ≡ false → Says x (K pool (at (i - 1))) (K pool it) → K pool (at (i - 1)) ≤ K pool it
+            go : (x : Ordering) → is_gt x ≡ false → Says x (K pool (at (i - 1))) (K pool it) → K pool (at (i - 1)) ≤ K pool it
             go Less g s = omega arith
             go Equal g s = omega arith
             go Greater g s = true_false true refl g
@@ -212,7 +212,7 @@ module _ (pool ws : List ℕ) where
         above_run : Parts → (j : ℕ) → j < run' → K pool (at j) < K pool it
         above_run q j h = go o refl q.0
           where
-            go : (x : Ordering) → o ≡ x → is_greater x ≡ false → K pool (at j) < K pool it
+            go : (x : Ordering) → o ≡ x → is_gt x ≡ false → K pool (at j) < K pool it
             go Less f g =
                 let less : j < i = omega (arith, run_bound) in
                 omega (arith, v.sorted j less, rw f at (last_says i it e (omega arith)))

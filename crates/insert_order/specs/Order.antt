@@ -1,7 +1,8 @@
 -- The order of a list of items: when an item breaks it with an earlier one. Definitions only. Assumes nothing.
+use Rattle.std.specs.declared.cmp.Ordering.{Ordering}
+use Rattle.std.specs.Ordering.{is_lt}
 use Rattle.std.specs.Prelude.{ℕ, List, [], ◌∷◌, Bool, false, not, ◌||◌, ◌&&◌, eqb}
-use Rattle.key_order.specs.declared.Ordering.{Ordering}
-use Rattle.key_order.specs.Order.{then_by, is_less}
+use Rattle.key_order.specs.Order.{then_by}
 use Rattle.query_item.specs.declared.ItemWords.{ItemWords}
 use Rattle.query_item.specs.Items.{bytes_of, same}
 use Rattle.query_item.specs.Boundaries.{compare_in, range_of}
@@ -24,13 +25,13 @@ same_item pool x y =
 
 -- 01 m5.1: one item ends below the start of another
 unfoldable pub ends_below : List ℕ → ItemWords → ItemWords → Bool
-ends_below pool x y = is_less (compare_in pool (range_of x).end (range_of y).start)
+ends_below pool x y = is_lt (compare_in pool (range_of x).end (range_of y).start)
 
 -- 01 m5.1, reading A6: an item breaks the order with an earlier one that it sorts below, with an earlier plain one that does not end below
 -- its start where it is plain too, and with an earlier one that is equal
 abbrev pub clash : List ℕ → ItemWords → ItemWords → Bool
 clash pool earlier it =
-    is_less (compare_items pool it earlier)
+    is_lt (compare_items pool it earlier)
     || (plain earlier && plain it && not (ends_below pool earlier it))
     || same_item pool earlier it
 

@@ -1,9 +1,9 @@
 -- What the pass over a list goes by, an item at a time: the quick test of the order. proofs/Seen.antt says that it finds what Order.antt and
 -- Refusals.antt define. It serves 01 m5.1. Assumes nothing.
+use Rattle.std.specs.declared.cmp.Ordering.{Ordering}
+use Rattle.std.specs.declared.cmp.Ordering.TheVariants.{Less, Equal, Greater}
+use Rattle.std.specs.Ordering.{is_gt}
 use Rattle.std.specs.Prelude.{ℕ, zero, suc, ◌-◌, List, [], ◌∷◌, Bool, false, cond, not, ◌||◌, ◌&&◌, ltb, eqb}
-use Rattle.key_order.specs.declared.Ordering.{Ordering}
-use Rattle.key_order.specs.declared.Ordering.TheVariants.{Less, Equal, Greater}
-use Rattle.key_order.specs.Order.{is_greater}
 use Rattle.query_item.specs.declared.ItemWords.{ItemWords}
 use Rattle.query_item.specs.Items.{item_at, items_from}
 use Rattle.insert_order.specs.Order.{compare_items, plain, same_item, ends_below}
@@ -38,4 +38,4 @@ repeats pool [] it = false
 repeats pool (e ∷ es) it = same_item pool e it || repeats pool es it
 
 abbrev pub quick_clash : List ℕ → List ℕ → Ordering → ℕ → ℕ → ℕ → ItemWords → Bool
-quick_clash pool ws o run p i it = is_greater o || meets_plain pool ws p it || repeats pool (items_from ws run (i - run)) it
+quick_clash pool ws o run p i it = is_gt o || meets_plain pool ws p it || repeats pool (items_from ws run (i - run)) it

@@ -10,91 +10,78 @@
 ghost use Rattle.std.specs.Prelude.{◌≡◌, ◌-◌};
 ghost use Rattle.query_item.specs.Items.{items_from};
 ghost use Rattle.query_item.specs.Boundaries.{range_of};
-ghost use Rattle.item_check.specs.Checks.{verdict_of, accepted, upright_fault, first_bad};
+ghost use Rattle.item_check.specs.Checks.{accepted, upright_fault, first_bad};
 ghost use Rattle.insert_order.specs.Order.{compare_items, plain, same_item, ends_below};
 ghost use Rattle.insert_order.specs.Refusals.{buffer_verdict, order_verdict, ordered_verdict, input_verdict};
 ghost use Rattle.insert_order.specs.Passes.{follows_plain, last_order, run_start, meets_plain, last_plain, repeats, quick_clash};
 
-use item_check::{
-    Checked, MOST_ITEMS, check_fault, check_items, check_pool, refuse, upright_fault,
-};
+use item_check::{MOST_ITEMS, Reason, Refusal, check_items, check_pool, check_upright, refuse};
 use item_words::{ITEM_SIZE, item_at, query_item};
-use key_order::{Ordering, is_equal, is_greater};
 use query_item::pooled::{below_in, compare_in, compare_keys};
 use query_item::{ItemWords, RangeSet};
+use std::cmp::Ordering;
 
 // inner: all that is refused before the room: the pool, the list, the new item.
-pub fn check_input(pool: &[u8], words: &[u32], count: usize, item: ItemWords) -> Checked
-    ensures { verdict_of result ≡ input_verdict pool.now words.now count item }
+pub fn check_input(pool: &[u8], words: &[u32], count: usize, item: ItemWords) -> Result<(), Refusal>
+    ensures { result ≡ input_verdict pool.now words.now count item }
 {
-    match check_pool(pool) {
-        Checked::Refused(r) => Checked::Refused(r),
-        Checked::Accepted => match check_buffer(words, count) {
-            Checked::Refused(r) => Checked::Refused(r),
-            Checked::Accepted => match check_ordered(pool, words, count) {
-                Checked::Refused(r) => Checked::Refused(r),
-                Checked::Accepted => check_fault(upright_fault(pool, item), 1, 0),
-            },
-        },
-    }
+    check_pool(pool)?;
+    check_buffer(words, count)?;
+    check_ordered(pool, words, count)?;
+    check_upright(pool, item, 1, 0)
 }
 
 // The count is not beyond the buffer, nor too large. Spare words are never refused.
-fn check_buffer(words: &[u32], count: usize) -> Checked
-    ensures { verdict_of result ≡ buffer_verdict words.now count }
+fn check_buffer(words: &[u32], count: usize) -> Result<(), Refusal>
+    ensures { result ≡ buffer_verdict words.now count }
 {
     if (words.len() / ITEM_SIZE < count) | (MOST_ITEMS < count) {
-        return refuse(1, 0, 0);
+        return refuse(Reason::Malformed, 0, 0);
     }
-    Checked::Accepted
+    Ok(())
 }
 
-fn check_ordered(pool: &[u8], words: &[u32], count: usize) -> Checked
-    ensures { verdict_of result ≡ ordered_verdict pool.now (items_from words.now 0 count) }
+fn check_ordered(pool: &[u8], words: &[u32], count: usize) -> Result<(), Refusal>
+    ensures { result ≡ ordered_verdict pool.now (items_from words.now 0 count) }
 {
-    match check_items(pool, words, count, 0) {
-        Checked::Refused(r) => Checked::Refused(r),
-        Checked::Accepted => check_order(pool, words, count),
-    }
+    check_items(pool, words, count, 0)?;
+    check_order(pool, words, count)
 }
 
 // The first item that breaks insertion order with any earlier one; 4. A plain item that starts above the end of the item before it, which is
 // plain too, breaks no rule. Otherwise only the last of the earlier ones, the last plain one and the run of items of the same range, at
 // most seven, have to be asked.
-fn check_order(pool: &[u8], words: &[u32], count: usize) -> Checked
+fn check_order(pool: &[u8], words: &[u32], count: usize) -> Result<(), Refusal>
     requires { first_bad (upright_fault pool.now) 0 0 (items_from words.now 0 count) ≡ accepted }
-    ensures { verdict_of result ≡ order_verdict pool.now (items_from words.now 0 count) }
+    ensures { result ≡ order_verdict pool.now (items_from words.now 0 count) }
 {
     let mut run: usize = 0;
     let mut plain_end: usize = 0;
-    let mut i: usize = 0;
-    while i < count {
+    for i in 0..count {
         let item = item_at(words, i);
         if follows_plain(pool, words, plain_end, i, item) {
             run = i;
-            i += 1;
-            plain_end = i;
+            plain_end = i + 1;
         } else {
             let order = last_order(pool, words, i, item);
             run = run_start(order, i, run);
-            if is_clash(pool, words, order, run, plain_end, i, item) {
-                return refuse(4, 0, i);
+            if order.is_gt()
+                | meets_plain(pool, words, plain_end, item)
+                | is_repeated(pool, words, run, i, item)
+            {
+                return refuse(Reason::OutOfOrder, 0, i);
             }
-            i += 1;
-            plain_end = last_plain(item, i, plain_end);
+            plain_end = last_plain(item, i + 1, plain_end);
         }
     }
-    Checked::Accepted
+    Ok(())
 }
 
 // Whether an item and the one before the index i are plain, and it starts above the end of that.
 fn follows_plain(pool: &[u8], words: &[u32], plain_end: usize, i: usize, item: ItemWords) -> bool
     ensures { result ≡ follows_plain pool.now words.now plain_end i item }
 {
-    if (i < 1) | !(plain_end == i) | !(item.wrapper == 0) {
-        return false;
-    }
-    ends_below(pool, item_at(words, i - 1), item)
+    (0 < i) && plain_end == i && is_plain(item) && ends_below(pool, item_at(words, i - 1), item)
 }
 
 // How the item before the index i stands to an item; where there is none it counts as below.
@@ -110,33 +97,13 @@ fn last_order(pool: &[u8], words: &[u32], i: usize, item: ItemWords) -> Ordering
 fn run_start(order: Ordering, i: usize, run: usize) -> usize
     ensures { result ≡ run_start order i run }
 {
-    match order {
-        Ordering::Less => i,
-        Ordering::Equal => run,
-        Ordering::Greater => run,
-    }
+    if order.is_lt() { i } else { run }
 }
 
 fn last_plain(item: ItemWords, i: usize, plain_end: usize) -> usize
     ensures { result ≡ last_plain item i plain_end }
 {
     if item.wrapper == 0 { i } else { plain_end }
-}
-
-fn is_clash(
-    pool: &[u8],
-    words: &[u32],
-    order: Ordering,
-    run: usize,
-    plain_end: usize,
-    i: usize,
-    item: ItemWords,
-) -> bool
-    ensures { result ≡ quick_clash pool.now words.now order run plain_end i item }
-{
-    is_greater(order)
-        | meets_plain(pool, words, plain_end, item)
-        | is_repeated(pool, words, run, i, item)
 }
 
 fn meets_plain(pool: &[u8], words: &[u32], plain_end: usize, item: ItemWords) -> bool
@@ -152,56 +119,36 @@ fn meets_plain(pool: &[u8], words: &[u32], plain_end: usize, item: ItemWords) ->
 fn is_repeated(pool: &[u8], words: &[u32], run: usize, i: usize, item: ItemWords) -> bool
     ensures { result ≡ repeats pool.now (items_from words.now run (i - run)) item }
 {
-    let mut j = run;
-    while j < i {
-        if is_same(pool, item_at(words, j), item) {
-            return true;
-        }
-        j += 1;
-    }
-    false
+    (run..i).any(|j| is_same(pool, item_at(words, j), item))
 }
 
 // inner: how x stands to y: by start, then end.
+#[tactic(auto, unfolding(crate::specs::Order::compare_items))]
 pub fn compare_items(pool: &[u8], x: ItemWords, y: ItemWords) -> Ordering
     ensures { result ≡ compare_items pool.now x y }
 {
     let a = range_of(x);
     let b = range_of(y);
-    let s = a.start;
-    let t = b.start;
-    let e = a.end;
-    let f = b.end;
-    match compare_in(pool, s, t) {
-        Ordering::Less => Ordering::Less,
-        Ordering::Equal => compare_in(pool, e, f),
-        Ordering::Greater => Ordering::Greater,
-    }
+    compare_in(pool, a.start, b.start).then_with(|| compare_in(pool, a.end, b.end))
 }
 
 // inner: whether x ends below the start of y.
+#[tactic(auto, unfolding(crate::specs::Order::ends_below))]
 pub fn ends_below(pool: &[u8], x: ItemWords, y: ItemWords) -> bool
     ensures { result ≡ ends_below pool.now x y }
 {
-    let a = range_of(x);
-    let b = range_of(y);
-    let e = a.end;
-    let s = b.start;
-    below_in(pool, e, s)
+    below_in(pool, range_of(x).end, range_of(y).start)
 }
 
 // inner: whether two items are equal in code, wrapper and key bytes.
+#[tactic(auto, unfolding(crate::specs::Order::same_item))]
 pub fn is_same(pool: &[u8], x: ItemWords, y: ItemWords) -> bool
     ensures { result ≡ same_item pool.now x y }
 {
-    if !((x.code == y.code) & (x.wrapper == y.wrapper)) {
-        return false;
-    }
-    let a = x.start;
-    let b = y.start;
-    let c = x.end;
-    let d = y.end;
-    is_equal(compare_keys(pool, a, b)) & is_equal(compare_keys(pool, c, d))
+    x.code == y.code
+        && x.wrapper == y.wrapper
+        && compare_keys(pool, x.start, y.start).is_eq()
+        && compare_keys(pool, x.end, y.end).is_eq()
 }
 
 // inner: whether an item has no wrapper.

@@ -1,5 +1,6 @@
 -- Each law that a caller cites: for two items that the call accepts, which keys are in the shared part and which in the leftovers, for keys k of
 -- any length. No contract cites this file. Assumes nothing.
+use Rattle.std.specs.Prelude.{Ok}
 use Prim.Native.Nat.{ℕ}
 use mathlib.Core.Path.{◌≡◌}
 use mathlib.Core.Bool.{true, false, not, ◌&&◌, ◌||◌}
@@ -7,21 +8,19 @@ use mathlib.Core.List.{List}
 use Rattle.query_item.specs.declared.ItemWords.{ItemWords}
 use Rattle.query_item.specs.Items.{query_item, holds, holds_maybe}
 use Rattle.query_item.specs.Boundaries.{range_of, upright}
-use Rattle.item_check.specs.Checks.{answered, accepted}
+use Rattle.item_check.specs.Checks.{accepted}
 use Rattle.item_check.proofs.Laws.{answers}
 use Rattle.intersect.specs.declared.QueryItemIntersectionResult.{QueryItemIntersectionResult}
 use Rattle.intersect.specs.Pair.{intersection, pair_verdict, pair_answer}
 use Rattle.intersect.proofs.Held.{meet_holds, over_holds, over_once, accepted_upright}
--- the pair's numbers and values tell its cases apart
-pub use Rattle.intersect.proofs.Apart.{pair_apart}
 
 -- ---- the keys of the pair
 
-module _ (pool : List ℕ) (ours theirs : ItemWords) (p : QueryItemIntersectionResult) (is : pair_answer pool ours theirs ≡ answered p)
+module _ (pool : List ℕ) (ours theirs : ItemWords) (p : QueryItemIntersectionResult) (is : pair_answer pool ours theirs ≡ Ok p)
     (k : List ℕ) where
   parts : (pair_verdict pool ours theirs ≡ accepted) × (intersection pool (range_of ours) (range_of theirs) ≡ p)
   parts =
-      let both = answers (pair_verdict pool ours theirs) (answered (intersection pool (range_of ours) (range_of theirs))) p is in
+      let both = answers (pair_verdict pool ours theirs) (Ok (intersection pool (range_of ours) (range_of theirs))) p is in
       (both.0, cc both.1)
 
   u : upright pool (range_of ours) ≡ true

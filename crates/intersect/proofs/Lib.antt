@@ -2,5 +2,4 @@ pub mod Laws
 pub mod Ranked
 pub mod Intervals
 pub mod Held
-pub mod Apart
 pub mod Seen

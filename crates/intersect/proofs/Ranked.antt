@@ -1,5 +1,6 @@
 -- The pair in ranks: what two ranges share and what is left over of each, case by case; and a left leftover with one comparison less.
 -- Assumes nothing.
+use Rattle.std.specs.Ordering.{is_lt}
 use Prim.Native.Nat.{ℕ, ◌+◌, ◌≤◌, ◌<◌}
 use mathlib.Core.Path.{◌≡◌, refl, sym, ap, ◌∙◌}
 use mathlib.Core.Bool.{Bool, true, false, cond}
@@ -7,7 +8,6 @@ use mathlib.Core.List.{List, [], ◌∷◌}
 use native.Mathlib.Omega.{arith}
 use native.Mathlib.Nat.{le_refl}
 use borrow.Author.Tests.{leb-true, ltb-true, lt-ltb, le-ltb}
-use Rattle.key_order.specs.Order.{is_less}
 use Rattle.key_order.proofs.Line.{size}
 use Rattle.query_item.specs.declared.RangeSetItem.{RangeSetItem}
 use Rattle.query_item.specs.declared.RangeSet.{RangeSet}
@@ -35,10 +35,10 @@ module _ (pool : List ℕ) (n : ℕ) (fits : size pool ≤ n) where
 
   -- ---- tests by rank
 
-  pub less_yes : (x y : RangeSetItem) → rk x < rk y → is_less (compare_in pool x y) ≡ true
+  pub less_yes : (x y : RangeSetItem) → rk x < rk y → is_lt (compare_in pool x y) ≡ true
   less_yes x y l = less_rank pool n fits x y ∙ lt-ltb (rk x) (rk y) l
 
-  pub less_no : (x y : RangeSetItem) → rk y ≤ rk x → is_less (compare_in pool x y) ≡ false
+  pub less_no : (x y : RangeSetItem) → rk y ≤ rk x → is_lt (compare_in pool x y) ≡ false
   less_no x y l = less_rank pool n fits x y ∙ le-ltb (rk x) (rk y) l
 
   pub whole_of : (s e : RangeSetItem) → Starts s → Ends e → rk s ≤ rk e → Good (from_to s e)

@@ -6,29 +6,14 @@
 
 pub mod pair;
 
-use item_check::Refusal;
-use query_item::{MaybeItem, RangeSet};
-
-// A range that may be missing.
-#[derive(Clone, Copy)]
-pub enum MaybeSet {
-    NoSet,
-    Set(RangeSet),
-}
+use query_item::QueryItem;
 
 // What two items share, and what is left over of each to the left and to the right.
-#[derive(Clone, Copy)]
+#[derive(Clone, Copy, PartialEq, Eq)]
 pub struct QueryItemIntersectionResult {
-    pub in_both: MaybeItem,
-    pub ours_left: MaybeItem,
-    pub ours_right: MaybeItem,
-    pub theirs_left: MaybeItem,
-    pub theirs_right: MaybeItem,
-}
-
-// What the pair answers.
-#[derive(Clone, Copy)]
-pub enum PairAnswer {
-    Pair(QueryItemIntersectionResult),
-    Refused(Refusal),
+    pub in_both: Option<QueryItem>,
+    pub ours_left: Option<QueryItem>,
+    pub ours_right: Option<QueryItem>,
+    pub theirs_left: Option<QueryItem>,
+    pub theirs_right: Option<QueryItem>,
 }

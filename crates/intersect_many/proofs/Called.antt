@@ -1,5 +1,6 @@
 -- The call on two accepted lists that has room: it answers, and the front of each lent list is then the list that demand 3 speaks of.
 -- Assumes nothing.
+use Rattle.std.specs.Prelude.{Ok}
 use Prim.Native.Nat.{ℕ}
 use mathlib.Core.Path.{◌≡◌, ap, ◌∙◌}
 use mathlib.Core.Bool.{false}
@@ -8,7 +9,7 @@ use lib.ListN.{length, take}
 use lib.Seq.{take-append_seam}
 use Rattle.query_item.specs.declared.ItemWords.{ItemWords}
 use Rattle.query_item.specs.Items.{flat_all}
-use Rattle.item_check.specs.Checks.{Answer, accepted, answered, list_verdict}
+use Rattle.item_check.specs.Checks.{Answer, accepted, list_verdict}
 use Rattle.item_check.proofs.Laws.{accepted_list}
 use Rattle.item_lists.specs.Lists.{Accepted}
 use Rattle.item_lists.specs.Written.{written}
@@ -18,7 +19,7 @@ use Rattle.intersect_many.specs.Lists.{counts_of, lacks_room, many_answer}
 
 module _ (pool A B : List ℕ) (a : Accepted pool A) (b : Accepted pool B) (shared_out ours_out theirs_out : List ℕ)
     (room : lacks_room (counts_of pool A B) shared_out ours_out theirs_out ≡ false) where
-  pub call_answers : many_answer pool A B shared_out ours_out theirs_out ≡ answered (counts_of pool A B)
+  pub call_answers : many_answer pool A B shared_out ours_out theirs_out ≡ Ok (counts_of pool A B)
   call_answers =
       let ours : list_verdict pool A 0 ≡ accepted = (accepted_list pool 0 A).1 (list_of pool A a) in
       let theirs : list_verdict pool B 1 ≡ accepted = (accepted_list pool 1 B).1 (list_of pool B b) in

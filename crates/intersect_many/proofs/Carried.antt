@@ -1,10 +1,10 @@
 -- Lists of ranges as lists of intervals of ranks: what two share and what one keeps are what `intervals` says of the two, and no key is made
 -- that would be refused. Assumes nothing.
+use Rattle.std.specs.Ordering.{is_lt}
 use Prim.Native.Nat.{ℕ, ◌≤◌}
 use mathlib.Core.Path.{◌≡◌, ◌∙◌}
 use mathlib.Core.Bool.{Bool, true, false, cond}
 use mathlib.Core.List.{List, [], ◌∷◌, map, map-append}
-use Rattle.key_order.specs.Order.{is_less}
 use Rattle.key_order.proofs.Line.{size}
 use Rattle.query_item.specs.declared.RangeSetItem.{RangeSetItem}
 use Rattle.query_item.specs.declared.RangeSetItem.TheVariants.{UnboundedStart, UnboundedEnd, Inclusive, ExclusiveStart, ExclusiveEnd}
@@ -52,7 +52,7 @@ module _ (pool : List ℕ) (a b : RangeSet) (A : KeysIn pool a) (B : KeysIn pool
 
   left_keys : All (KeysIn pool) (left_over pool a b)
   unfolding left_over
-  left_keys = go (before pool a b) (before pool b a) (is_less (compare_in pool a.start b.start))
+  left_keys = go (before pool a b) (before pool b a) (is_lt (compare_in pool a.start b.start))
     where
       go : (t u v : Bool)
           → All (KeysIn pool) (cond t (a ∷ []) (cond u [] (cond v (from_to a.start (invert_of b.start false) ∷ []) [])))
@@ -63,7 +63,7 @@ module _ (pool : List ℕ) (a b : RangeSet) (A : KeysIn pool a) (B : KeysIn pool
 
   right_keys : All (KeysIn pool) (right_over pool a b)
   unfolding right_over
-  right_keys = go (before pool a b) (before pool b a) (is_less (compare_in pool b.end a.end))
+  right_keys = go (before pool a b) (before pool b a) (is_lt (compare_in pool b.end a.end))
     where
       go : (t u v : Bool)
           → All (KeysIn pool) (cond t [] (cond u (a ∷ []) (cond v (from_to (invert_of b.end true) a.end ∷ []) [])))

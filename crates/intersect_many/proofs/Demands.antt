@@ -1,12 +1,13 @@
 -- DEMAND 3 (01 demand.3, tight.7, 02 §2.5), as laws of the lists that `intersect_many_ordered` writes, for any accepted lists A, B, C over one pool.
 -- What a reader must believe is in specs/Demand.antt, specs/Lists.antt and specs/Lists.antt of `item_lists`; each law is proved in Called.antt, Room.antt or Demanded.antt. The laws
 -- of Shown.antt, of any lists over two pools, are passed on. Assumes nothing.
+use Rattle.std.specs.Prelude.{Ok}
 use Prim.Native.Nat.{ℕ}
 use mathlib.Core.Path.{◌≡◌}
 use mathlib.Core.Bool.{false, not, ◌&&◌, ◌||◌}
 use mathlib.Core.List.{List}
 use lib.ListN.{length, take}
-use Rattle.item_check.specs.Checks.{answered, items_of}
+use Rattle.item_check.specs.Checks.{items_of}
 use Rattle.item_lists.specs.Lists.{Accepted, Fits, list_holds, SameItems}
 use Rattle.item_lists.specs.Written.{written}
 use Rattle.intersect_many.specs.Lists.{shared_items, only_items, lacks_room, counts_of, many_answer}
@@ -21,7 +22,7 @@ pub use Rattle.intersect_many.proofs.Shown.{shared_shown, only_shown, many_answe
 module _ (pool A B : List ℕ) (a : Accepted pool A) (b : Accepted pool B) (shared_out ours_out theirs_out : List ℕ)
     (room : lacks_room (counts_of pool A B) shared_out ours_out theirs_out ≡ false) where
   -- 0. Where the lent lists have room the call answers, with the counts of the three lists
-  pub call_answers : many_answer pool A B shared_out ours_out theirs_out ≡ answered (counts_of pool A B)
+  pub call_answers : many_answer pool A B shared_out ours_out theirs_out ≡ Ok (counts_of pool A B)
   call_answers = called.call_answers pool A B a b shared_out ours_out theirs_out room
 
   -- and leaves at the front of each lent list the words that the laws below speak of: A shared with B, A without B, B without A

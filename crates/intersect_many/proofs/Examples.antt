@@ -1,4 +1,5 @@
 -- Worked lists with ranges that hold no key, by computation. Assumes nothing.
+use Rattle.std.specs.Prelude.{Ok}
 use Prim.Native.Nat.{ℕ}
 use mathlib.Core.Path.{◌≡◌, refl}
 use mathlib.Core.List.{List, [], ◌∷◌, ◌++◌}
@@ -10,7 +11,7 @@ use Rattle.query_item.specs.declared.ItemWords.{ItemWords}
 use Rattle.query_item.specs.declared.QueryItem.TheVariants.{Range, RangeInclusive, RangeFrom, RangeAfter, RangeAfterTo}
 use Rattle.query_item.specs.Items.{key_at, absent, words_of, item_at, items_from}
 use Rattle.keyless.specs.Keyless.{keyless}
-use Rattle.item_check.specs.Checks.{answered, first_bad, first_break, strict_verdict}
+use Rattle.item_check.specs.Checks.{first_bad, first_break, strict_verdict}
 use Rattle.item_lists.specs.Lists.{Accepted}
 use Rattle.intersect.specs.Pair.{meet_sets, left_over, right_over}
 use Rattle.intersect_many.specs.Lists.{convert_all, keyed_items, shared_items, only_items, many_answer}
@@ -68,7 +69,7 @@ left_out = refl
 
 -- the room that a list needs is that of what is left: P6's two items need none for ours
 room_of_what_is_left : many_answer pool (item 3 absent absent) (item 4 absent absent) (item 0 absent absent) [] []
-    ≡ answered (record { shared = 1; ours = 0; theirs = 0 })
+    ≡ Ok (record { shared = 1; ours = 0; theirs = 0 })
 unfolding compare_numbers compare_keys compare_boundaries item_at items_from first_bad first_break strict_verdict meets_of shared_of cuts_of without_of keep meet_sets left_over right_over keyless convert_all keyed_items shared_items only_items
 room_of_what_is_left = refl
 

@@ -12,5 +12,4 @@ pub mod Demanded
 pub mod Called
 pub mod Demands
 pub mod Stands
-pub mod Apart
 mod Examples

@@ -1,4 +1,5 @@
 -- Converted lists as words, read back: the items that were written, their intervals, and that the check accepts them. Assumes nothing.
+use Rattle.std.specs.Prelude.{Option, None, Some}
 use Prim.Native.Nat.{ℕ, ◌+◌, ◌≤◌}
 use mathlib.Core.Path.{◌≡◌, refl, sym, ap, ◌∙◌}
 use mathlib.Core.Bool.{true, false, not, not-not}
@@ -12,8 +13,6 @@ use Rattle.query_item.specs.declared.QueryItem.{QueryItem}
 use Rattle.query_item.specs.declared.RangeSetItem.{RangeSetItem}
 use Rattle.query_item.specs.declared.RangeSet.{RangeSet}
 use Rattle.query_item.specs.declared.ItemWords.{ItemWords}
-use Rattle.query_item.specs.declared.MaybeItem.{MaybeItem}
-use Rattle.query_item.specs.declared.MaybeItem.TheVariants.{NoItem, Item}
 use Rattle.query_item.specs.Items.{bytes_of, words_of, flat_all}
 use Rattle.query_item.specs.Boundaries.{from_to, to_range_set, range_of, item_between, to_query_item}
 use Rattle.query_item.proofs.Laws.{query_words, each_between, Keeps, item_keeps, holds_converted, rank_in, less_rank, whole_upright}
@@ -67,10 +66,10 @@ module _ (pool : List ℕ) (n : ℕ) (fits : size pool ≤ n) where
 
   -- ---- each item of ranges that hold a key holds one (02 §2.1)
 
-  item_holds : (s : RangeSet) → Fine pool n fits s → keyless pool s ≡ false → (m : MaybeItem) → to_query_item pool s ≡ m → EachHolds pool (as_items m)
-  item_holds s f d NoItem e = tt
-  item_holds s f d (Item q) e =
-      let keeps : Keeps pool s.start s.end (Item q) = rw e at (item_keeps pool s.start s.end) in
+  item_holds : (s : RangeSet) → Fine pool n fits s → keyless pool s ≡ false → (m : Option QueryItem) → to_query_item pool s ≡ m → EachHolds pool (as_items m)
+  item_holds s f d None e = tt
+  item_holds s f d (Some q) e =
+      let keeps : Keeps pool s.start s.end (Some q) = rw e at (item_keeps pool s.start s.end) in
       (rw (query_words 0 q, keeps.0) (holds_converted pool s.start s.end q (first_of pool s) e ∙ keyed_first pool n fits s f.good d), tt)
 
   each_append : (X Y : List ItemWords) → EachHolds pool X → EachHolds pool Y → EachHolds pool (X ++ Y)
@@ -92,9 +91,9 @@ module _ (pool : List ℕ) (n : ℕ) (fits : size pool ≤ n) where
   item_sound : (q : QueryItem) → Fine pool n fits (to_range_set q) → upright_fault pool (words_of 0 q) ≡ 0
   item_sound q f = rw (words_formed q, query_words 0 q, f.start_in, f.end_in, whole_upright pool n fits (to_range_set q) f.good)
 
-  one_sound : (m : MaybeItem) → All FineItem (as_items m) → AllSound pool (as_items m)
-  one_sound NoItem h = tt
-  one_sound (Item q) h = (item_sound q (rw (query_words 0 q) at h.0), tt)
+  one_sound : (m : Option QueryItem) → All FineItem (as_items m) → AllSound pool (as_items m)
+  one_sound None h = tt
+  one_sound (Some q) h = (item_sound q (rw (query_words 0 q) at h.0), tt)
 
   pub convert_sound : (S : List RangeSet) → All (Fine pool n fits) S → AllSound pool (convert_all pool S)
   unfolding convert_all

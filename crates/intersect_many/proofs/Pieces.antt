@@ -1,15 +1,15 @@
 -- Pieces as items: one list of them after another, and no more than one item a turn. Assumes nothing.
+use Rattle.std.specs.Prelude.{None}
+use Rattle.std.specs.Ordering.{is_lt}
 use Prim.Native.Nat.{ℕ, ◌≤◌}
 use mathlib.Core.Path.{◌≡◌, refl, ap, ◌∙◌}
 use mathlib.Core.Bool.{Bool, true, false, cond, not}
 use mathlib.Core.List.{List, [], ◌∷◌, ◌++◌, append_assoc, append-nil}
 use native.Mathlib.Omega.{arith}
 use lib.ListN.{length}
-use Rattle.key_order.specs.Order.{is_less}
 use Rattle.intervals.specs.Lists.{keep}
 use Rattle.intervals.proofs.Laws.{keep_append}
 use Rattle.query_item.specs.declared.RangeSet.{RangeSet}
-use Rattle.query_item.specs.declared.MaybeItem.TheVariants.{NoItem}
 use Rattle.query_item.specs.Boundaries.{compare_in, invert_of, from_to, to_query_item}
 use Rattle.keyless.specs.Keyless.{keyless, keyed, piece_item}
 use Rattle.item_lists.specs.Written.{as_items, Put}
@@ -35,7 +35,7 @@ pub keyed_cons : (pool : List ℕ) (s : RangeSet) (S : List RangeSet) → keyed_
 unfolding keyed_items keep convert_all
 keyed_cons pool s S = go (keyless pool s)
   where
-    go : (t : Bool) → convert_all pool (cond (not t) (s ∷ keyed pool S) (keyed pool S)) ≡ as_items (cond t NoItem (to_query_item pool s)) ++ convert_all pool (keyed pool S)
+    go : (t : Bool) → convert_all pool (cond (not t) (s ∷ keyed pool S) (keyed pool S)) ≡ as_items (cond t None (to_query_item pool s)) ++ convert_all pool (keyed pool S)
     go true = refl
     go false = refl
 
@@ -67,4 +67,4 @@ unfolding left_over
 left_few pool a b =
     one_or pool (before pool a b) a (cond (before pool b a) [] (left_part pool a b))
     (none_or pool (before pool b a) (left_part pool a b)
-    (one_or pool (is_less (compare_in pool a.start b.start)) (from_to a.start (invert_of b.start false)) [] (no_item pool)))
+    (one_or pool (is_lt (compare_in pool a.start b.start)) (from_to a.start (invert_of b.start false)) [] (no_item pool)))

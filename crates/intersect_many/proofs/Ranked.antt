@@ -1,5 +1,6 @@
 -- Ranges of a pool by their ranks: what two share, a cut and its parts, as the one-pass sweeps ask for them; and accepted lists ascend.
 -- Assumes nothing.
+use Rattle.std.specs.Ordering.{is_lt, is_le}
 use Prim.Native.Nat.{ℕ, ◌+◌, ◌≤◌, ◌<◌}
 use mathlib.Core.Path.{◌≡◌, refl, sym, ap, ◌∙◌}
 use mathlib.Core.Bool.{Bool, true, false, cond, not}
@@ -7,7 +8,6 @@ use mathlib.Core.List.{List, [], ◌∷◌, append-nil, map}
 use native.Mathlib.Decide.{dec_lt}
 use native.Mathlib.Omega.{arith}
 use borrow.Author.Tests.{leb-true, leb-false, ltb-true, ltb-false}
-use Rattle.key_order.specs.Order.{is_less, is_at_most}
 use Rattle.key_order.proofs.Line.{size}
 use Rattle.query_item.specs.declared.ItemWords.{ItemWords}
 use Rattle.query_item.specs.declared.RangeSetItem.{RangeSetItem}
@@ -38,7 +38,7 @@ module _ (pool : List ℕ) (n : ℕ) (fits : size pool ≤ n) where
 
   -- a does not end after b
   abbrev pub ends_first : RangeSet → RangeSet → Bool
-  ends_first a b = is_at_most (compare_in pool a.end b.end)
+  ends_first a b = is_le (compare_in pool a.end b.end)
 
   spanned : Spanned ends_first Good low high
   spanned = record {
@@ -120,18 +120,18 @@ module _ (pool : List ℕ) (n : ℕ) (fits : size pool ≤ n) where
   left_gone b x l = rw (pair.less_no pool n fits x.start b.start l)
 
   pub left_known : (a b x : RangeSet) → Good a → Good b → Good x → x.end ≡ a.end → rk a.start ≤ rk x.start → before pool a b ≡ false
-      → left_over pool x b ≡ cond (is_less (compare_in pool a.start b.start)) (left_part pool x b) []
-  left_known a b x A B X e l f = left_of_lem b x B (rw e f) ∙ go (is_less (compare_in pool a.start b.start)) refl
+      → left_over pool x b ≡ cond (is_lt (compare_in pool a.start b.start)) (left_part pool x b) []
+  left_known a b x A B X e l f = left_of_lem b x B (rw e f) ∙ go (is_lt (compare_in pool a.start b.start)) refl
     where
-      go : (t : Bool) → is_less (compare_in pool a.start b.start) ≡ t → left_part pool x b ≡ cond t (left_part pool x b) []
+      go : (t : Bool) → is_lt (compare_in pool a.start b.start) ≡ t → left_part pool x b ≡ cond t (left_part pool x b) []
       go true p = refl
       go false p = left_gone b x (omega (arith, l, ltb-false (rk a.start) (rk b.start) (sym (less_rank pool n fits a.start b.start) ∙ p)))
 
   pub left_known_past : (a b y : RangeSet) → Good a → Good b → Good y → y.end ≡ b.end → rk b.start ≤ rk y.start → before pool b a ≡ false
-      → left_over pool y a ≡ cond (not (is_at_most (compare_in pool a.start b.start))) (left_part pool y a) []
-  left_known_past a b y A B Y e l f = left_of_lem a y A (rw e f) ∙ go (is_at_most (compare_in pool a.start b.start)) refl
+      → left_over pool y a ≡ cond (not (is_le (compare_in pool a.start b.start))) (left_part pool y a) []
+  left_known_past a b y A B Y e l f = left_of_lem a y A (rw e f) ∙ go (is_le (compare_in pool a.start b.start)) refl
     where
-      go : (t : Bool) → is_at_most (compare_in pool a.start b.start) ≡ t → left_part pool y a ≡ cond (not t) (left_part pool y a) []
+      go : (t : Bool) → is_le (compare_in pool a.start b.start) ≡ t → left_part pool y a ≡ cond (not t) (left_part pool y a) []
       go true p = left_gone a y (omega (arith, l, leb-true (rk a.start) (rk b.start) (sym (at_most_rank pool n fits a.start b.start) ∙ p)))
       go false p = refl
 

@@ -1,4 +1,5 @@
 -- The room of the three lists: what is refused for want of it, and what items written in enough of it leave. Assumes nothing.
+use Rattle.std.specs.Prelude.{Ok}
 use Prim.Native.Nat.{ℕ, ◌/◌, ◌≤◌}
 use mathlib.Core.Path.{◌≡◌, sym, ap, ◌∙◌}
 use mathlib.Core.Bool.{true, false, ◌||◌}
@@ -8,7 +9,7 @@ use lib.ListN.{length}
 use borrow.Author.Tests.{ltb-false, le-ltb}
 use Rattle.query_item.specs.declared.ItemWords.{ItemWords}
 use Rattle.query_item.specs.Items.{item_size}
-use Rattle.item_check.specs.Checks.{answered, refused, accepted, and_then, pool_verdict, list_verdict}
+use Rattle.item_check.specs.Checks.{refused, accepted, and_then, pool_verdict, list_verdict}
 use Rattle.item_check.proofs.Laws.{both_false, accepts}
 use Rattle.item_lists.specs.Written.{passes, Put}
 use Rattle.item_lists.proofs.Written.{put_laid}
@@ -51,8 +52,8 @@ counted pool ours theirs n p =
     λ i. record { shared = e i; ours = f i; theirs = g i }
 
 module _ (pool ours theirs shared_out ours_out theirs_out : List ℕ) (n : ManyCounts) (is : n ≡ counts_of pool ours theirs) where
-  by_counts : lists_room_answer pool ours theirs shared_out ours_out theirs_out ≡ and_then (lists_room_verdict n shared_out ours_out theirs_out) (answered n)
-  by_counts = ap (λ (m : ManyCounts). and_then (lists_room_verdict m shared_out ours_out theirs_out) (answered m)) (sym is)
+  by_counts : lists_room_answer pool ours theirs shared_out ours_out theirs_out ≡ and_then (lists_room_verdict n shared_out ours_out theirs_out) (Ok n)
+  by_counts = ap (λ (m : ManyCounts). and_then (lists_room_verdict m shared_out ours_out theirs_out) (Ok m)) (sym is)
 
   -- a refusal leaves the lists as they were
   pub lists_refused : lacks_room n shared_out ours_out theirs_out ≡ true
@@ -62,13 +63,13 @@ module _ (pool ours theirs shared_out ours_out theirs_out : List ℕ) (n : ManyC
       record { told = rw is_refused_lem; shared = rw is_refused_lem; ours_only = rw is_refused_lem; theirs_only = rw is_refused_lem }
 
   module _ (e : lacks_room n shared_out ours_out theirs_out ≡ false) where
-    room_answered : lists_room_answer pool ours theirs shared_out ours_out theirs_out ≡ answered n
+    room_answered : lists_room_answer pool ours theirs shared_out ours_out theirs_out ≡ Ok n
     room_answered = by_counts ∙ rw e
 
     -- what the pass leaves is what the call promises
     pub lists_answered : {shared_out' ours_out' theirs_out' : List ℕ} {m : ManyCounts}
         → Sweeps pool ours theirs shared_out ours_out theirs_out m shared_out' ours_out' theirs_out'
-        → RoomGives pool ours theirs shared_out ours_out theirs_out (answered n) shared_out' ours_out' theirs_out'
+        → RoomGives pool ours theirs shared_out ours_out theirs_out (Ok n) shared_out' ours_out' theirs_out'
     lists_answered p =
         let room = has_room n shared_out ours_out theirs_out e in
         record {

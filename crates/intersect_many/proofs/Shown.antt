@@ -1,21 +1,21 @@
 -- The three lists go by what the given lists show: kind, wrapper and key bytes, whatever pool the keys stand in. Ranges are seen as their
 -- boundaries (Seen.antt of `query_item`), which tell what is shared, what is left over, what holds no key, and the items that are written.
 -- Ranges that are the same as intervals are seen the same, and so are written as the same items. Assumes nothing.
+use Rattle.query_item.specs.declared.QueryItem.{QueryItem}
+use Rattle.std.specs.Prelude.{Option, None, Some, Ok}
 use Prim.Native.Nat.{ℕ, ◌+◌, ◌≤◌}
 use mathlib.Core.Path.{◌≡◌, refl, sym, ap, ap₂, ◌∙◌}
 use mathlib.Core.List.{List, [], ◌∷◌, ◌++◌, map, map-append, map-map, flat_map}
 use Rattle.key_order.proofs.Line.{size}
 use Rattle.key_order.proofs.Ranks.{rank}
 use Rattle.query_item.specs.declared.RangeSet.{RangeSet}
-use Rattle.query_item.specs.declared.MaybeItem.{MaybeItem}
-use Rattle.query_item.specs.declared.MaybeItem.TheVariants.{NoItem, Item}
 use Rattle.query_item.specs.Items.{shown, SameShown}
 use Rattle.query_item.specs.Boundaries.{to_query_item}
 use Rattle.query_item.proofs.Laws.{Sides, seen, told_item, shown_item, item_seen, ranges_seen, length_shown, same_seen}
 use Rattle.intervals.specs.Intervals.{Interval}
 use Rattle.intervals.specs.Lists.{shared_of, without_of}
 use Rattle.intervals.proofs.Laws.{All, all_of, map_shared, map_without}
-use Rattle.item_check.specs.Checks.{and_then, answered, items_of}
+use Rattle.item_check.specs.Checks.{and_then, items_of}
 use Rattle.item_lists.specs.Written.{as_items}
 use Rattle.keyless.specs.Keyless.{keyed}
 use Rattle.keyless.proofs.Laws.{keyed_sides, keyed_seen}
@@ -53,9 +53,9 @@ module _ (pool : List ℕ) where
       map-append (shown pool) (as_items (to_query_item pool s)) (convert_all pool S)
       ∙ ap₂ ◌++◌ (one (to_query_item pool s) ∙ item_seen pool s) (items_seen S)
     where
-      one : (m : MaybeItem) → map (shown pool) (as_items m) ≡ shown_item pool m
-      one NoItem = refl
-      one (Item q) = refl
+      one : (m : Option QueryItem) → map (shown pool) (as_items m) ≡ shown_item pool m
+      one None = refl
+      one (Some q) = refl
 
   keyed_items_seen : (S : List RangeSet) → map (shown pool) (keyed_items pool S) ≡ flat_map told_item (keyed_sides (map (seen pool) S))
   unfolding keyed_items
@@ -103,7 +103,7 @@ module _ (P Q : List ℕ) where
     pub many_answer_shown : lists_verdict P A B ≡ lists_verdict Q A' B' → (shared_out ours_out theirs_out : List ℕ)
         → many_answer P A B shared_out ours_out theirs_out ≡ many_answer Q A' B' shared_out ours_out theirs_out
     many_answer_shown v shared_out ours_out theirs_out =
-        rw v (ap (λ (m : ManyCounts). and_then (lists_verdict Q A' B') (and_then (lists_room_verdict m shared_out ours_out theirs_out) (answered m))) counts_shown)
+        rw v (ap (λ (m : ManyCounts). and_then (lists_verdict Q A' B') (and_then (lists_room_verdict m shared_out ours_out theirs_out) (Ok m))) counts_shown)
 
 -- ---- of ranges that are the same as intervals
 

@@ -1,12 +1,12 @@
 -- What the ways in which two ranges stand say of them. Assumes nothing.
+use Rattle.std.specs.declared.cmp.Ordering.{Ordering}
+use Rattle.std.specs.Ordering.{is_lt, is_le}
 use Prim.Native.Nat.{ℕ}
 use mathlib.Core.Path.{◌≡◌, refl, sym, ◌∙◌}
 use mathlib.Core.Bool.{Bool, true, false, cond, not}
 use mathlib.Core.List.{List}
 use native.Mathlib.Nat.{le_refl}
 use borrow.Author.Tests.{lt-ltb, leb-false, not-true}
-use Rattle.key_order.specs.declared.Ordering.{Ordering}
-use Rattle.key_order.specs.Order.{is_less, is_at_most}
 use Rattle.key_order.proofs.Line.{size}
 use Rattle.query_item.specs.declared.RangeSetItem.{RangeSetItem}
 use Rattle.query_item.specs.declared.RangeSet.{RangeSet}
@@ -47,7 +47,7 @@ module _ (pool : List ℕ) (a b : RangeSet) where
       go false false o e = (cc, refl, refl)
 
 -- what is not at most another is above it
-pub above_below : (pool : List ℕ) (x y : RangeSetItem) → not (is_at_most (compare_in pool x y)) ≡ true → is_less (compare_in pool y x) ≡ true
+pub above_below : (pool : List ℕ) (x y : RangeSetItem) → not (is_le (compare_in pool x y)) ≡ true → is_lt (compare_in pool y x) ≡ true
 above_below pool x y e =
     let n = size pool in
     let k = le_refl n in

@@ -1,4 +1,5 @@
 -- The one pass over both lists, a turn at a time: what is left to write of each of the three lists at the two indexes. Assumes nothing.
+use Rattle.std.specs.declared.cmp.Ordering.{Ordering}
 use Prim.Native.Nat.{ℕ, ◌+◌, ◌/◌, ◌≤◌, ◌<◌}
 use mathlib.Core.Path.{◌≡◌, refl, sym, ap, ◌∙◌}
 use mathlib.Core.Bool.{Bool, true, false}
@@ -8,7 +9,6 @@ use native.Mathlib.Nat.{le_refl}
 use native.Mathlib.Omega.{arith}
 use lib.ListN.{length}
 use borrow.Author.Tests.{le-leb, lt-leb}
-use Rattle.key_order.specs.declared.Ordering.{Ordering}
 use Rattle.key_order.proofs.Numbers.{Says}
 use Rattle.key_order.proofs.Line.{size}
 use Rattle.query_item.specs.declared.RangeSetItem.{RangeSetItem}

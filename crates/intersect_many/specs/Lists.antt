@@ -1,15 +1,13 @@
 -- Module 4 of document 01: the three lists of two lists of items, without the ranges that hold no key (02 §2.6). Definitions only. Assumes nothing.
-use Rattle.std.specs.Prelude.{ℕ, ◌≡◌, List, [], ◌∷◌, ◌++◌, map, Bool, cond, ◌||◌, length}
+use Rattle.std.specs.Prelude.{ℕ, ◌≡◌, List, [], ◌∷◌, ◌++◌, map, Bool, cond, ◌||◌, length, Ok}
 use Rattle.intervals.specs.Lists.{shared_of, without_of}
 use Rattle.query_item.specs.declared.ItemWords.{ItemWords}
 use Rattle.query_item.specs.declared.RangeSet.{RangeSet}
 use Rattle.query_item.specs.Boundaries.{range_of, to_query_item}
 use Rattle.keyless.specs.Keyless.{keyed}
-use Rattle.item_check.specs.Checks.{Answer, answered, refused, Verdict, accepted, and_then, refused_as, pool_verdict, list_verdict, items_of}
+use Rattle.item_check.specs.Checks.{Answer, refused, Verdict, accepted, and_then, pool_verdict, list_verdict, items_of}
 use Rattle.item_lists.specs.Written.{as_items, passes, written}
 use Rattle.intersect_many.specs.declared.ManyCounts.{ManyCounts}
-use Rattle.intersect_many.specs.declared.ManyAnswer.{ManyAnswer}
-use Rattle.intersect_many.specs.declared.ManyAnswer.TheVariants as many
 use Rattle.intersect.specs.Pair.{meet_sets, left_over, right_over}
 
 -- 01 m3.7: the ranges of a list's items, in order; wrappers are read through
@@ -48,10 +46,6 @@ only_items pool ours theirs = keyed_items pool (only_sets pool ours theirs)
 
 -- ---- the call: the pool, ours entirely, theirs entirely, then the room of the three lists, whole items (01 refusal.6)
 
-abbrev pub many_of : ManyAnswer → Answer ManyCounts
-many_of (many.Counts c) = answered c
-many_of (many.Refused r) = refused_as r
-
 abbrev pub both_verdict : List ℕ → List ℕ → List ℕ → Verdict
 both_verdict pool ours theirs = and_then (list_verdict pool ours 0) (list_verdict pool theirs 1)
 
@@ -75,7 +69,7 @@ counts_of pool ours theirs =
 
 abbrev pub lists_room_answer : List ℕ → List ℕ → List ℕ → List ℕ → List ℕ → List ℕ → Answer ManyCounts
 lists_room_answer pool ours theirs shared_out ours_out theirs_out =
-    and_then (lists_room_verdict (counts_of pool ours theirs) shared_out ours_out theirs_out) (answered (counts_of pool ours theirs))
+    and_then (lists_room_verdict (counts_of pool ours theirs) shared_out ours_out theirs_out) (Ok (counts_of pool ours theirs))
 
 abbrev pub many_answer : List ℕ → List ℕ → List ℕ → List ℕ → List ℕ → List ℕ → Answer ManyCounts
 many_answer pool ours theirs shared_out ours_out theirs_out =

@@ -1,12 +1,12 @@
 -- What the one pass over both lists goes by. No promise of a public call cites this. It serves 01 m4.1, m4.2, m4.3. Assumes nothing.
+use Rattle.std.specs.declared.cmp.Ordering.{Ordering}
+use Rattle.std.specs.Ordering.{is_lt, is_le}
 use Rattle.std.specs.Prelude.{ℕ, ◌+◌, ◌-◌, ◌*◌, ◌/◌, ◌≤◌, ◌≡◌, List, [], ◌∷◌, map, true, cond, not, length}
 use Rattle.query_item.specs.declared.RangeSet.{RangeSet}
 use Rattle.item_check.specs.Checks.{Answer, accepted, most_items, list_verdict}
 use Rattle.item_lists.specs.Written.{Put}
 use Rattle.query_item.specs.Items.{item_size, items_from}
 use Rattle.query_item.specs.Boundaries.{compare_in, invert_of, from_to, range_of}
-use Rattle.key_order.specs.declared.Ordering.{Ordering}
-use Rattle.key_order.specs.Order.{is_less, is_at_most}
 use Rattle.intersect.specs.Pair.{before, overlap, meet_sets, left_part, left_over}
 use Rattle.intersect_many.specs.Lists.{keyed_items, shared_items, only_items, lists_room_answer, GivesLists}
 use Rattle.intersect_many.specs.declared.ManyCounts.{ManyCounts}
@@ -51,8 +51,8 @@ stand_of pool a b = cond (before pool a b) Before (cond (before pool b a) After 
 pub record Turn (pool : List ℕ) (ends : Ordering) (a b x y : RangeSet) (n : ManyCounts) : Type 0 where
   pub ends_are : ends ≡ compare_in pool a.end b.end
   pub shared : meet_sets pool a b ≡ overlap pool a b ∷ []
-  pub our_left : left_over pool x b ≡ cond (is_less (compare_in pool a.start b.start)) (left_part pool x b) []
-  pub their_left : left_over pool y a ≡ cond (not (is_at_most (compare_in pool a.start b.start))) (left_part pool y a) []
+  pub our_left : left_over pool x b ≡ cond (is_lt (compare_in pool a.start b.start)) (left_part pool x b) []
+  pub their_left : left_over pool y a ≡ cond (not (is_le (compare_in pool a.start b.start))) (left_part pool y a) []
   pub shared_few : n.shared ≤ most_pieces
   pub ours_few : n.ours ≤ most_pieces
   pub theirs_few : n.theirs ≤ most_pieces

@@ -6,40 +6,32 @@
 // when its index moves.
 #![tactic(auto)]
 
-ghost use Rattle.std.specs.Prelude.{◌≡◌, true, false, cond, [], ◌+◌, ◌/◌, ◌≤◌, length};
+ghost use Rattle.std.specs.Ordering.{is_lt};
+ghost use Rattle.std.specs.Prelude.{MatchResult, Err, ◌≡◌, true, false, cond, [], ◌+◌, ◌/◌, ◌≤◌, length};
 ghost use Rattle.query_item.specs.Items.{item_size};
-ghost use Rattle.item_check.specs.Checks.{verdict_of};
-ghost use Rattle.key_order.specs.Order.{is_less};
-ghost use Rattle.query_item.specs.Boundaries.{compare_in, invert_of, from_to};
+ghost use Rattle.query_item.specs.Boundaries.{set_at, compare_in, invert_of, from_to};
 ghost use Rattle.keyless.specs.Keyless.{piece_item};
 ghost use Rattle.item_lists.specs.Written.{as_items, Put};
 ghost use Rattle.intersect.specs.Pair.{before, left_part};
-ghost use Rattle.intersect_many.specs.Lists.{keyed_items, many_of, both_verdict, lists_verdict, lacks_room, counts_of, IntersectMany};
-ghost use Rattle.intersect_many.specs.Sweep.{right_set, rest_left, BothAccepted, most_pieces, stand_of, Turn, RoomGives, Emits, Sweeps};
+ghost use Rattle.item_check.specs.Checks.{accepted};
+ghost use Rattle.intersect_many.specs.Lists.{keyed_items, lists_verdict, lacks_room, counts_of, IntersectMany};
+ghost use Rattle.intersect_many.specs.Sweep.{right_set, rest_left, most_pieces, stand_of, Turn, RoomGives, Emits, Sweeps};
 
-use boundary::rung_of;
 use intersect::pair::{is_before, overlap_by};
-use item_check::{Checked, Refusal, check_pool, check_words, refusal_of, set_at};
+use item_check::{Reason, Refusal, check_pool, check_words, refuse, set_at};
 use item_lists::{passes_room, put_item};
 use item_words::ITEM_SIZE;
-use key_order::{Ordering, is_at_most, is_less};
 use keyless::piece_item;
-use query_item::pooled::{below_in, compare_in, invert_in, key_of, kind_of};
-use query_item::{RangeSet, RangeSetItem};
+use query_item::RangeSet;
+use query_item::pooled::{below_in, compare_in};
+use std::cmp::Ordering;
 
 // How many items the three lists have.
-#[derive(Clone, Copy)]
+#[derive(Clone, Copy, PartialEq, Eq)]
 pub struct ManyCounts {
     pub shared: usize,
     pub ours: usize,
     pub theirs: usize,
-}
-
-// What the call on two lists answers.
-#[derive(Clone, Copy)]
-pub enum ManyAnswer {
-    Counts(ManyCounts),
-    Refused(Refusal),
 }
 
 // How two ranges stand: ours before theirs, after it, or meeting it, with the order of their ends.
@@ -60,15 +52,13 @@ pub fn intersect_many_ordered(
     shared_out: &mut [u32],
     ours_out: &mut [u32],
     theirs_out: &mut [u32],
-) -> ManyAnswer
+) -> Result<ManyCounts, Refusal>
     ensures { IntersectMany pool.now ours.now theirs.now
         shared_out.old ours_out.old theirs_out.old
-        (many_of result) shared_out.new ours_out.new theirs_out.new }
+        result shared_out.new ours_out.new theirs_out.new }
 {
-    match check_lists(pool, ours, theirs) {
-        Checked::Refused(r) => ManyAnswer::Refused(r),
-        Checked::Accepted => write_lists(pool, ours, theirs, shared_out, ours_out, theirs_out),
-    }
+    let lists = Lists::check(pool, ours, theirs)?;
+    lists.write(shared_out, ours_out, theirs_out)
 }
 
 // Writes the item of a range, if it holds a key, at index n, and says where the next one goes.
@@ -79,26 +69,33 @@ fn put_set(pool: &[u8], out: &mut [u32], n: usize, set: RangeSet) -> usize
     n + put_item(out, n, piece_item(pool, set))
 }
 
-// Whether two boundaries are of one kind and name one key, by offset and length. No byte is looked at.
-fn is_same_boundary(x: RangeSetItem, y: RangeSetItem) -> bool
-    ensures { result ≡ true → x ≡ y }
-{
-    let k = key_of(x);
-    let l = key_of(y);
-    (rung_of(kind_of(x)) == rung_of(kind_of(y))) & (k.offset == l.offset) & (k.length == l.length)
+// An item's range as it stands in its list, and what is left of it.
+#[derive(Clone, Copy)]
+struct Rest {
+    whole: RangeSet,
+    left: RangeSet,
 }
 
-// What of x stands past b, where b ends first. As long as x starts where the whole item does, which meets b, that need not be asked.
-fn right_set(pool: &[u8], a: RangeSet, x: RangeSet, b: RangeSet) -> RangeSet
-    requires { before pool.now b a ≡ false }
-    ensures { result ≡ right_set pool.now x b }
-{
-    let whole = a.start;
-    let start = x.start;
-    if !is_same_boundary(start, whole) {
-        return right_asked(pool, x, b);
+impl Rest {
+    // Of the item at an index all is left.
+    fn at(words: &[u32], i: usize) -> Rest
+        ensures whole { result.whole ≡ set_at words.now i }
+        ensures left { result.left ≡ set_at words.now i }
+    {
+        let whole = set_at(words, i);
+        Rest { whole, left: whole }
     }
-    past_set(x, b)
+}
+
+// What of a's rest stands past b, where b ends first. As long as it starts where the whole item does, which meets b, that need not be asked.
+fn right_set(pool: &[u8], a: Rest, b: RangeSet) -> RangeSet
+    requires { before pool.now b a.whole ≡ false }
+    ensures { result ≡ right_set pool.now a.left b }
+{
+    if a.left.start != a.whole.start {
+        return right_asked(pool, a.left, b);
+    }
+    past_set(a.left, b)
 }
 
 fn right_asked(pool: &[u8], x: RangeSet, b: RangeSet) -> RangeSet
@@ -113,11 +110,9 @@ fn right_asked(pool: &[u8], x: RangeSet, b: RangeSet) -> RangeSet
 fn past_set(x: RangeSet, b: RangeSet) -> RangeSet
     ensures { result ≡ from_to (invert_of b.end true) x.end }
 {
-    let from = b.end;
-    let end = x.end;
     RangeSet {
-        start: invert_in(from, true),
-        end,
+        start: b.end.invert(true),
+        end: x.end,
     }
 }
 
@@ -131,36 +126,23 @@ fn how_they_stand(pool: &[u8], a: RangeSet, b: RangeSet) -> Stand
     if is_before(pool, b, a) {
         return Stand::After;
     }
-    let our_end = a.end;
-    let their_end = b.end;
-    Stand::Meets(compare_in(pool, our_end, their_end))
+    Stand::Meets(compare_in(pool, a.end, b.end))
 }
 
-// What of x starts below b, written at index n, where it is not known that none does. As long as x starts where the whole item does, which
+// What of a's rest starts below b, written at index n, where it is not known that none does. As long as it starts where the whole item does, which
 // starts below b then, that need not be asked again.
-fn put_left(
-    pool: &[u8],
-    may: bool,
-    a: RangeSet,
-    x: RangeSet,
-    b: RangeSet,
-    out: &mut [u32],
-    n: usize,
-) -> usize
-    requires { (n ≤ most_pieces) × (may ≡ true → is_less (compare_in pool.now a.start b.start) ≡ true) }
-    ensures { Put out.old n (keyed_items pool.now (cond may (left_part pool.now x b) [])) out.new result }
+fn put_left(pool: &[u8], may: bool, a: Rest, b: RangeSet, out: &mut [u32], n: usize) -> usize
+    requires { (n ≤ most_pieces) × (may ≡ true → is_lt (compare_in pool.now a.whole.start b.start) ≡ true) }
+    ensures { Put out.old n (keyed_items pool.now (cond may (left_part pool.now a.left b) [])) out.new result }
 {
     if !may {
         return n;
     }
-    let whole = a.start;
-    let start = x.start;
-    if is_same_boundary(start, whole) {
-        return put_below(pool, x, b, out, n);
+    if a.left.start == a.whole.start {
+        return put_below(pool, a.left, b, out, n);
     }
-    let stop = b.start;
-    if below_in(pool, start, stop) {
-        return put_below(pool, x, b, out, n);
+    if below_in(pool, a.left.start, b.start) {
+        return put_below(pool, a.left, b, out, n);
     }
     n
 }
@@ -170,36 +152,34 @@ fn put_below(pool: &[u8], x: RangeSet, b: RangeSet, out: &mut [u32], n: usize) -
     requires { n ≤ most_pieces }
     ensures { Put out.old n (as_items (piece_item pool.now (from_to x.start (invert_of b.start false)))) out.new result }
 {
-    let start = x.start;
-    let stop = b.start;
-    let end = invert_in(stop, false);
-    put_set(pool, out, n, RangeSet { start, end })
+    let below = RangeSet {
+        start: x.start,
+        end: b.start.invert(false),
+    };
+    put_set(pool, out, n, below)
 }
 
-// A turn's items where a and b meet: what they share, and what of each, of which x and y are left, starts below the other.
+// A turn's items where a and b meet: what they share, and what of each one's rest starts below the other.
 fn emit(
     pool: &[u8],
     ends: Ordering,
-    a: RangeSet,
-    b: RangeSet,
-    x: RangeSet,
-    y: RangeSet,
+    a: Rest,
+    b: Rest,
     shared_out: &mut [u32],
     ours_out: &mut [u32],
     theirs_out: &mut [u32],
     n: ManyCounts,
 ) -> ManyCounts
-    requires { Turn pool.now ends a b x y n }
-    ensures { Emits pool.now a b x y n shared_out.old ours_out.old theirs_out.old
+    requires { Turn pool.now ends a.whole b.whole a.left b.left n }
+    ensures { Emits pool.now a.whole b.whole a.left b.left n shared_out.old ours_out.old theirs_out.old
         result shared_out.new ours_out.new theirs_out.new }
 {
-    let our_start = a.start;
-    let their_start = b.start;
-    let starts = compare_in(pool, our_start, their_start);
+    let starts = compare_in(pool, a.whole.start, b.whole.start);
+    let meet = overlap_by(starts, ends, a.whole, b.whole);
     ManyCounts {
-        shared: put_set(pool, shared_out, n.shared, overlap_by(starts, ends, a, b)),
-        ours: put_left(pool, is_less(starts), a, x, b, ours_out, n.ours),
-        theirs: put_left(pool, !is_at_most(starts), b, y, a, theirs_out, n.theirs),
+        shared: put_set(pool, shared_out, n.shared, meet),
+        ours: put_left(pool, starts.is_lt(), a, b.whole, ours_out, n.ours),
+        theirs: put_left(pool, !starts.is_le(), b, a.whole, theirs_out, n.theirs),
     }
 }
 
@@ -213,143 +193,131 @@ fn put_rest(pool: &[u8], words: &[u32], i: usize, x: RangeSet, out: &mut [u32], 
         return n;
     }
     let mut m = put_set(pool, out, n, x);
-    let mut k = i + 1;
-    while k < count {
+    for k in i + 1..count {
         m = put_set(pool, out, m, set_at(words, k));
-        k += 1;
     }
     m
 }
 
-fn with_ours(n: ManyCounts, ours: usize) -> ManyCounts
-    ensures { (result.shared ≡ n.shared) × (result.ours ≡ ours) × (result.theirs ≡ n.theirs) }
-{
-    ManyCounts {
-        shared: n.shared,
-        ours,
-        theirs: n.theirs,
-    }
+// Two accepted lists over one pool.
+#[derive(Clone, Copy)]
+struct Lists<'a> {
+    pool: &'a [u8],
+    ours: &'a [u32],
+    theirs: &'a [u32],
+    ghost accepted: { lists_verdict pool.now ours.now theirs.now ≡ accepted },
 }
 
-fn with_theirs(n: ManyCounts, theirs: usize) -> ManyCounts
-    ensures { (result.shared ≡ n.shared) × (result.ours ≡ n.ours) × (result.theirs ≡ theirs) }
-{
-    ManyCounts {
-        shared: n.shared,
-        ours: n.ours,
-        theirs,
+impl<'a> Lists<'a> {
+    // The pool, then ours entirely, then theirs entirely.
+    fn check(pool: &'a [u8], ours: &'a [u32], theirs: &'a [u32]) -> Result<Lists<'a>, Refusal>
+        ensures { MatchResult result (λ l. (l.pool.now ≡ pool.now) × (l.ours.now ≡ ours.now) × (l.theirs.now ≡ theirs.now)) (λ r. lists_verdict pool.now ours.now theirs.now ≡ Err r) }
+    {
+        check_pool(pool)?;
+        check_words(pool, ours, 0)?;
+        check_words(pool, theirs, 1)?;
+        Ok(Lists { pool, ours, theirs })
     }
-}
 
-// The three lists of two accepted lists, written as far as there is room, and their counts.
-fn sweep(
-    pool: &[u8],
-    ours: &[u32],
-    theirs: &[u32],
-    shared_out: &mut [u32],
-    ours_out: &mut [u32],
-    theirs_out: &mut [u32],
-) -> ManyCounts
-    requires { BothAccepted pool.now ours.now theirs.now }
-    ensures { Sweeps pool.now ours.now theirs.now
-        shared_out.old ours_out.old theirs_out.old
-        result shared_out.new ours_out.new theirs_out.new }
-{
-    let our_count = ours.len() / ITEM_SIZE;
-    let their_count = theirs.len() / ITEM_SIZE;
-    let mut n = ManyCounts {
-        shared: 0,
-        ours: 0,
-        theirs: 0,
-    };
-    let mut i: usize = 0;
-    let mut j: usize = 0;
-    let mut a = set_at(ours, 0);
-    let mut b = set_at(theirs, 0);
-    let mut x = a;
-    let mut y = b;
-    while (i < our_count) & (j < their_count) {
-        match how_they_stand(pool, a, b) {
-            Stand::Before => {
-                n = with_ours(n, put_set(pool, ours_out, n.ours, x));
-                i += 1;
-                a = set_at(ours, i);
-                x = a;
-            }
-            Stand::After => {
-                n = with_theirs(n, put_set(pool, theirs_out, n.theirs, y));
-                j += 1;
-                b = set_at(theirs, j);
-                y = b;
-            }
-            Stand::Meets(ends) => {
-                n = emit(pool, ends, a, b, x, y, shared_out, ours_out, theirs_out, n);
-                match ends {
-                    Ordering::Less => {
-                        y = right_set(pool, b, y, a);
-                        i += 1;
-                        a = set_at(ours, i);
-                        x = a;
-                    }
-                    Ordering::Greater => {
-                        x = right_set(pool, a, x, b);
-                        j += 1;
-                        b = set_at(theirs, j);
-                        y = b;
-                    }
-                    Ordering::Equal => {
-                        i += 1;
-                        j += 1;
-                        a = set_at(ours, i);
-                        b = set_at(theirs, j);
-                        x = a;
-                        y = b;
+    // The three lists, written as far as there is room, and their counts.
+    fn sweep(
+        self,
+        shared_out: &mut [u32],
+        ours_out: &mut [u32],
+        theirs_out: &mut [u32],
+    ) -> ManyCounts
+        ensures { Sweeps self.entry.pool.now self.entry.ours.now self.entry.theirs.now
+            shared_out.old ours_out.old theirs_out.old
+            result shared_out.new ours_out.new theirs_out.new }
+    {
+        let our_count = self.ours.len() / ITEM_SIZE;
+        let their_count = self.theirs.len() / ITEM_SIZE;
+        let mut n = ManyCounts {
+            shared: 0,
+            ours: 0,
+            theirs: 0,
+        };
+        let mut i: usize = 0;
+        let mut j: usize = 0;
+        let mut a = Rest::at(self.ours, 0);
+        let mut b = Rest::at(self.theirs, 0);
+        // two places: a turn moves one of them or both
+        while (i < our_count) & (j < their_count) {
+            match how_they_stand(self.pool, a.whole, b.whole) {
+                Stand::Before => {
+                    n.ours = put_set(self.pool, ours_out, n.ours, a.left);
+                    i += 1;
+                    a = Rest::at(self.ours, i);
+                }
+                Stand::After => {
+                    n.theirs = put_set(self.pool, theirs_out, n.theirs, b.left);
+                    j += 1;
+                    b = Rest::at(self.theirs, j);
+                }
+                Stand::Meets(ends) => {
+                    n = emit(self.pool, ends, a, b, shared_out, ours_out, theirs_out, n);
+                    match ends {
+                        Ordering::Less => {
+                            b.left = right_set(self.pool, b, a.whole);
+                            i += 1;
+                            a = Rest::at(self.ours, i);
+                        }
+                        Ordering::Greater => {
+                            a.left = right_set(self.pool, a, b.whole);
+                            j += 1;
+                            b = Rest::at(self.theirs, j);
+                        }
+                        Ordering::Equal => {
+                            i += 1;
+                            j += 1;
+                            a = Rest::at(self.ours, i);
+                            b = Rest::at(self.theirs, j);
+                        }
                     }
                 }
             }
         }
+        ManyCounts {
+            shared: n.shared,
+            ours: put_rest(self.pool, self.ours, i, a.left, ours_out, n.ours),
+            theirs: put_rest(self.pool, self.theirs, j, b.left, theirs_out, n.theirs),
+        }
     }
-    ManyCounts {
-        shared: n.shared,
-        ours: put_rest(pool, ours, i, x, ours_out, n.ours),
-        theirs: put_rest(pool, theirs, j, y, theirs_out, n.theirs),
+
+    // The counts of the three lists: a pass that has no room to write.
+    fn count(self) -> ManyCounts
+        ensures { result ≡ counts_of self.entry.pool.now self.entry.ours.now self.entry.theirs.now }
+    {
+        self.sweep(&mut [], &mut [], &mut [])
     }
-}
 
-// The counts of the three lists: a pass that has no room to write.
-fn count(pool: &[u8], ours: &[u32], theirs: &[u32]) -> ManyCounts
-    requires { BothAccepted pool.now ours.now theirs.now }
-    ensures { result ≡ counts_of pool.now ours.now theirs.now }
-{
-    let mut shared_out = [0u32; 1];
-    let mut ours_out = [0u32; 1];
-    let mut theirs_out = [0u32; 1];
-    sweep(
-        pool,
-        ours,
-        theirs,
-        &mut shared_out,
-        &mut ours_out,
-        &mut theirs_out,
-    )
-}
-
-// The pool, then ours entirely, then theirs entirely.
-fn check_lists(pool: &[u8], ours: &[u32], theirs: &[u32]) -> Checked
-    ensures { verdict_of result ≡ lists_verdict pool.now ours.now theirs.now }
-{
-    match check_pool(pool) {
-        Checked::Refused(r) => Checked::Refused(r),
-        Checked::Accepted => check_both(pool, ours, theirs),
-    }
-}
-
-fn check_both(pool: &[u8], ours: &[u32], theirs: &[u32]) -> Checked
-    ensures { verdict_of result ≡ both_verdict pool.now ours.now theirs.now }
-{
-    match check_words(pool, ours, 0) {
-        Checked::Refused(r) => Checked::Refused(r),
-        Checked::Accepted => check_words(pool, theirs, 1),
+    // The lists at once where there is room for the most that they can have; else the room that they need, known before anything is written, and
+    // then the lists.
+    fn write(
+        self,
+        shared_out: &mut [u32],
+        ours_out: &mut [u32],
+        theirs_out: &mut [u32],
+    ) -> Result<ManyCounts, Refusal>
+        ensures { RoomGives self.entry.pool.now self.entry.ours.now self.entry.theirs.now
+            shared_out.old ours_out.old theirs_out.old
+            result shared_out.new ours_out.new theirs_out.new }
+    {
+        let all = self.ours.len() / ITEM_SIZE + self.theirs.len() / ITEM_SIZE;
+        let most = ManyCounts {
+            shared: all,
+            ours: all,
+            theirs: all,
+        };
+        if !lack_room(most, shared_out, ours_out, theirs_out) {
+            return Ok(self.sweep(shared_out, ours_out, theirs_out));
+        }
+        let n = self.count();
+        if lack_room(n, shared_out, ours_out, theirs_out) {
+            return refuse(Reason::NoRoom, 0, 0);
+        }
+        self.sweep(shared_out, ours_out, theirs_out);
+        Ok(n)
     }
 }
 
@@ -360,36 +328,4 @@ fn lack_room(n: ManyCounts, shared_out: &[u32], ours_out: &[u32], theirs_out: &[
     passes_room(n.shared, shared_out)
         | passes_room(n.ours, ours_out)
         | passes_room(n.theirs, theirs_out)
-}
-
-// The lists at once where there is room for the most that they can have; else the room that they need, known before anything is written, and
-// then the lists.
-fn write_lists(
-    pool: &[u8],
-    ours: &[u32],
-    theirs: &[u32],
-    shared_out: &mut [u32],
-    ours_out: &mut [u32],
-    theirs_out: &mut [u32],
-) -> ManyAnswer
-    requires { BothAccepted pool.now ours.now theirs.now }
-    ensures { RoomGives pool.now ours.now theirs.now
-        shared_out.old ours_out.old theirs_out.old
-        (many_of result) shared_out.new ours_out.new theirs_out.new }
-{
-    let all = ours.len() / ITEM_SIZE + theirs.len() / ITEM_SIZE;
-    let most = ManyCounts {
-        shared: all,
-        ours: all,
-        theirs: all,
-    };
-    if !lack_room(most, shared_out, ours_out, theirs_out) {
-        return ManyAnswer::Counts(sweep(pool, ours, theirs, shared_out, ours_out, theirs_out));
-    }
-    let n = count(pool, ours, theirs);
-    if lack_room(n, shared_out, ours_out, theirs_out) {
-        return ManyAnswer::Refused(refusal_of(6, 0, 0));
-    }
-    sweep(pool, ours, theirs, shared_out, ours_out, theirs_out);
-    ManyAnswer::Counts(n)
 }

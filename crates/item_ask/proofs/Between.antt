@@ -1,11 +1,12 @@
 -- The table's answers about a key are those of the item's boundaries, which the borrowed range gives. Assumes nothing.
+use Rattle.std.specs.declared.cmp.Ordering.{Ordering}
+use Rattle.std.specs.declared.cmp.Ordering.TheVariants.{Less, Equal, Greater}
+use Rattle.std.specs.Ordering.{is_eq}
 use Prim.Native.Nat.{ℕ}
 use mathlib.Core.Path.{◌≡◌, refl, sym, ap₂}
 use mathlib.Core.Bool.{false, or-false}
 use mathlib.Core.List.{List}
-use Rattle.key_order.specs.declared.Ordering.{Ordering}
-use Rattle.key_order.specs.declared.Ordering.TheVariants.{Less, Equal, Greater}
-use Rattle.key_order.specs.Order.{compare_numbers, compare_keys, then_by, is_equal}
+use Rattle.key_order.specs.Order.{compare_numbers, compare_keys, then_by}
 use Rattle.key_order.specs.Boundary.{at_key, inclusive, exclusive_start, exclusive_end, compare_boundaries}
 use Rattle.query_item.specs.declared.QueryItem.{QueryItem}
 use Rattle.query_item.specs.declared.QueryItem.TheVariants.{
@@ -28,30 +29,30 @@ use Rattle.item_ask.specs.Asked.{on_exclusive, containment}
 
 -- ---- at a tie of keys the kinds decide
 
-tie_less : (o : Ordering) → is_equal (then_by o Less) ≡ false
+tie_less : (o : Ordering) → is_eq (then_by o Less) ≡ false
 tie_less Less = refl
 tie_less Equal = refl
 tie_less Greater = refl
 
-tie_equal : (o : Ordering) → is_equal (then_by o Equal) ≡ is_equal o
+tie_equal : (o : Ordering) → is_eq (then_by o Equal) ≡ is_eq o
 tie_equal Less = refl
 tie_equal Equal = refl
 tie_equal Greater = refl
 
 module _ (a k : List ℕ) where
-  off_start : is_equal (compare_boundaries (at_key a inclusive) (at_key k exclusive_start)) ≡ false
+  off_start : is_eq (compare_boundaries (at_key a inclusive) (at_key k exclusive_start)) ≡ false
   unfolding compare_boundaries compare_numbers
   off_start = tie_less (compare_keys a k)
 
-  on_start : is_equal (compare_boundaries (at_key a exclusive_start) (at_key k exclusive_start)) ≡ same a k
+  on_start : is_eq (compare_boundaries (at_key a exclusive_start) (at_key k exclusive_start)) ≡ same a k
   unfolding compare_boundaries compare_numbers
   on_start = tie_equal (compare_keys a k)
 
-  off_end : is_equal (compare_boundaries (at_key k exclusive_end) (at_key a inclusive)) ≡ false
+  off_end : is_eq (compare_boundaries (at_key k exclusive_end) (at_key a inclusive)) ≡ false
   unfolding compare_boundaries compare_numbers
   off_end = tie_less (compare_keys k a)
 
-  on_end : is_equal (compare_boundaries (at_key k exclusive_end) (at_key a exclusive_end)) ≡ same k a
+  on_end : is_eq (compare_boundaries (at_key k exclusive_end) (at_key a exclusive_end)) ≡ same k a
   unfolding compare_boundaries compare_numbers
   on_end = tie_equal (compare_keys k a)
 

@@ -6,5 +6,3 @@ pub use Rattle.item_ask.proofs.Between.{containment_between_lem}
 pub use Rattle.item_ask.proofs.Directions.{no_left, no_right}
 -- yes may be a false hope: RangeAfter 05 asked left of 05 00 is answered yes, and no key that it holds stands there (01 m2.5)
 pub use Rattle.item_ask.proofs.Directions.{hope_answered, hope_false}
--- an answer's numbers and values tell its cases apart
-pub use Rattle.item_ask.proofs.Apart.{containment_apart, direction_apart, range_apart, item_apart}

@@ -1,4 +1,3 @@
 pub mod Between
 pub mod Directions
-pub mod Apart
 pub mod Laws

@@ -1,4 +1,6 @@
 -- What the check of a list accepts: whole items, not too many, each of which is sound, in order. Assumes nothing.
+use Rattle.std.specs.Prelude.{Ok, Err}
+use Rattle.std.specs.Ordering.{is_lt}
 use Prim.Native.Nat.{ℕ, suc, ◌/◌, ◌%◌, ◌≤◌}
 use mathlib.Core.Path.{◌≡◌, refl, sym}
 use mathlib.Core.Bool.{Bool, true, false, not, cond, ◌||◌, true≢false}
@@ -8,7 +10,6 @@ use lib.ListN.{length}
 use lib.Dec.{eqb, ltb}
 use borrow.Author.Tests.{ltb-false, le-ltb, eqb-true, eq-eqb, not-false}
 use Rattle.key_order.proofs.Impossible.{impossible}
-use Rattle.key_order.specs.Order.{is_less}
 use Rattle.key_order.proofs.Bools.{both_false}
 use Rattle.query_item.specs.declared.ItemWords.{ItemWords}
 use Rattle.query_item.specs.declared.RangeSetItem.{RangeSetItem}
@@ -17,7 +18,7 @@ use Rattle.query_item.specs.Boundaries.{compare_in, range_of}
 use Rattle.intervals.proofs.Laws.{All}
 use Rattle.item_check.proofs.Scans.{fault_passes}
 use Rattle.item_check.specs.declared.Refusal.{Refusal}
-use Rattle.item_check.specs.Checks.{Answer, Verdict, answered, refused_as, refusal, accepted, and_then, words_by, most_items, most_pool, upright_fault, fault_at}
+use Rattle.item_check.specs.Checks.{Answer, Verdict, refusal, accepted, and_then, words_by, most_items, most_pool, upright_fault, fault_at}
 use Rattle.item_check.specs.Checks.{pool_verdict, shape_verdict, first_bad, first_break, strict_verdict, items_of, whole_verdict, list_verdict}
 
 -- each item is sound: nothing of 1, 2, 3 is wrong with it
@@ -27,7 +28,7 @@ AllSound pool its = All (λ it. upright_fault pool it ≡ 0) its
 -- each item starts above the end of the one before it, the first above e
 abbrev pub Following : List ℕ → RangeSetItem → List ItemWords → Type 0
 Following pool e [] = Unit {0}
-Following pool e (it ∷ its) = (is_less (compare_in pool e (range_of it).start) ≡ true) × Following pool (range_of it).end its
+Following pool e (it ∷ its) = (is_lt (compare_in pool e (range_of it).start) ≡ true) × Following pool (range_of it).end its
 
 abbrev pub InOrder : List ℕ → List ItemWords → Type 0
 InOrder pool [] = Unit {0}
@@ -43,27 +44,27 @@ pub record AcceptedList (pool ws : List ℕ) : Type 0 where
 -- ---- both checks pass exactly where both do
 
 pub accepts : (v w : Verdict) → and_then v w ≡ accepted ↔ ((v ≡ accepted) × (w ≡ accepted))
-accepts (answered u) w = (λ e. (refl, e), λ e. e.1)
-accepts (refused_as r) w = (λ e. (e, cc), λ e. e.0)
+accepts (Ok u) w = (λ e. (refl, e), λ e. e.1)
+accepts (Err r) w = (λ e. (e, cc), λ e. e.0)
 
 -- a call that answers has passed its first check, and what comes after it answers
-pub answers : {A : Type 0} (v : Verdict) (a : Answer A) (p : A) → and_then v a ≡ answered p → (v ≡ accepted) × (a ≡ answered p)
-answers (answered u) a p e = (refl, e)
-answers (refused_as r) a p e = impossible cc
+pub answers : {A : Type 0} (v : Verdict) (a : Answer A) (p : A) → and_then v a ≡ Ok p → (v ≡ accepted) × (a ≡ Ok p)
+answers (Ok u) a p e = (refl, e)
+answers (Err r) a p e = impossible cc
 
 -- what a call leaves in words lent to it, where it refuses and where it answers
 
-pub words_refused : {A : Type 0} {a : Answer A} {r : Refusal} → a ≡ refused_as r → (before after : List ℕ) → words_by a before after ≡ before
+pub words_refused : {A : Type 0} {a : Answer A} {r : Refusal} → a ≡ Err r → (before after : List ℕ) → words_by a before after ≡ before
 words_refused e before after = rw e
 
-pub words_answered : {A : Type 0} {r : Answer A} {a : A} → r ≡ answered a → (before after : List ℕ) → words_by r before after ≡ after
+pub words_answered : {A : Type 0} {r : Answer A} {a : A} → r ≡ Ok a → (before after : List ℕ) → words_by r before after ≡ after
 words_answered e before after = rw e
 
-tested : (t : Bool) (v : Verdict) (r : Refusal) → cond t v (refused_as r) ≡ accepted ↔ ((t ≡ true) × (v ≡ accepted))
+tested : (t : Bool) (v : Verdict) (r : Refusal) → cond t v (Err r) ≡ accepted ↔ ((t ≡ true) × (v ≡ accepted))
 tested true v r = (λ e. (refl, e), λ e. e.1)
 tested false v r = (λ e. (cc, cc), λ e. absurd (true≢false (sym e.0)))
 
-pub refuses : (t : Bool) (r : Refusal) → cond t (refused_as r) accepted ≡ accepted ↔ t ≡ false
+pub refuses : (t : Bool) (r : Refusal) → cond t (Err r) accepted ≡ accepted ↔ t ≡ false
 refuses true r = (λ e. cc, λ e. cc)
 refuses false r = (λ e. refl, λ e. refl)
 
@@ -93,7 +94,7 @@ module _ (pool : List ℕ) (side : ℕ) where
   unfolding first_break
   following_pass i e [] = (λ p. tt, λ p. refl)
   following_pass i e (it ∷ its) =
-      let both = tested (is_less (compare_in pool e (range_of it).start)) (first_break pool side (suc i) (range_of it).end its) (refusal 4 side i) in
+      let both = tested (is_lt (compare_in pool e (range_of it).start)) (first_break pool side (suc i) (range_of it).end its) (refusal 4 side i) in
       let rest = following_pass (suc i) (range_of it).end its in
       (λ p. let b = both.0 p in (b.0, rest.0 b.1), λ p. both.1 (p.0, rest.1 p.1))
 

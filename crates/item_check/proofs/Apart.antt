@@ -1,16 +1,13 @@
--- A check's numbers tell its cases apart, so that a promise of them allows one answer alone. Assumes nothing.
-use mathlib.Core.Path.{◌≡◌, refl, ap}
+-- An answer tells its refusal, and a call has one answer. Assumes nothing.
+use Rattle.std.proofs.Common.{◌≡◌, sym, ◌∙◌}
+use Rattle.std.specs.Prelude.{Err}
 use Rattle.item_check.specs.declared.Refusal.{Refusal}
-use Rattle.item_check.specs.declared.Checked.{Checked}
-use Rattle.item_check.specs.declared.Checked.TheVariants as checked
-use Rattle.item_check.specs.Checks.{Answer, refused_as, verdict_of}
+use Rattle.item_check.specs.Checks.{Answer}
 
 -- an answer that refuses has one refusal
-pub refused_apart : {A : Type 0} (r t : Refusal) → ◌≡◌ {A = Answer A} (refused_as r) (refused_as t) → r ≡ t
+pub refused_apart : {A : Type 0} (r t : Refusal) → ◌≡◌ {A = Answer A} (Err r) (Err t) → r ≡ t
 refused_apart r t e = cc
 
-pub verdict_apart : (a b : Checked) → verdict_of a ≡ verdict_of b → a ≡ b
-verdict_apart checked.Accepted checked.Accepted e = refl
-verdict_apart checked.Accepted (checked.Refused t) e = cc
-verdict_apart (checked.Refused r) checked.Accepted e = cc
-verdict_apart (checked.Refused r) (checked.Refused t) e = ap checked.Refused (refused_apart r t e)
+-- 01 tight.1, form.11: of one definition there is one answer: any two that a promise `answer ≡ definition` allows are equal
+pub single_answer : {A : Type 0} (a b given : Answer A) → a ≡ given → b ≡ given → a ≡ b
+single_answer a b given e f = e ∙ sym f

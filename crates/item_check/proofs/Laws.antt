@@ -2,8 +2,8 @@
 
 -- two tests joined
 pub use Rattle.key_order.proofs.Bools.{both_true, both_false}
--- a check's numbers tell its cases apart
-pub use Rattle.item_check.proofs.Apart.{refused_apart, verdict_apart}
+-- an answer tells its refusal, and a call has one answer
+pub use Rattle.item_check.proofs.Apart.{refused_apart, single_answer}
 -- what the check of a list accepts
 pub use Rattle.item_check.proofs.Accepted.{AllSound, Following, InOrder, AcceptedList, accepts, refuses, items_pass, shape_passes, accepted_list, pool_passes}
 -- what a call that answers has passed, and what a call leaves in words lent to it

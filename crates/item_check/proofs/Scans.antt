@@ -1,4 +1,5 @@
 -- How the checks go over a list, a turn at a time: what is left of the list at an index. Assumes nothing.
+use Rattle.std.specs.Ordering.{is_lt}
 use Prim.Native.Nat.{ℕ, zero, suc, ◌+◌, ◌-◌, ◌≤◌, ◌<◌}
 use mathlib.Core.Path.{◌≡◌, refl}
 use mathlib.Core.Bool.{true, false}
@@ -7,7 +8,6 @@ use mathlib.Core.Logic.{◌↔◌}
 use native.Mathlib.Decide.{ℕ_discrete}
 use native.Mathlib.Omega.{arith}
 use native.Mathlib.Numerals.{add-one}
-use Rattle.key_order.specs.Order.{is_less}
 use Rattle.query_item.specs.declared.ItemWords.{ItemWords}
 use Rattle.query_item.specs.declared.RangeSetItem.{RangeSetItem}
 use Rattle.query_item.specs.Items.{item_at, items_from}
@@ -67,11 +67,11 @@ module _ (pool : List ℕ) (side : ℕ) (ws : List ℕ) (i count : ℕ) where
   unfolding first_break
   break_end end h = rw (items_end ws i count h)
 
-  pub break_here : (end : RangeSetItem) → i < count → is_less (compare_in pool end (set_at ws i).start) ≡ false → break_left end i ≡ refused 4 side i
+  pub break_here : (end : RangeSetItem) → i < count → is_lt (compare_in pool end (set_at ws i).start) ≡ false → break_left end i ≡ refused 4 side i
   unfolding first_break
   break_here end h e = rw (items_more ws i count h, e)
 
-  pub break_next : (end : RangeSetItem) → i < count → is_less (compare_in pool end (set_at ws i).start) ≡ true
+  pub break_next : (end : RangeSetItem) → i < count → is_lt (compare_in pool end (set_at ws i).start) ≡ true
       → break_left end i ≡ break_left (set_at ws i).end (i + 1)
   unfolding first_break
   break_next end h e = rw (items_more ws i count h, e, add-one i)

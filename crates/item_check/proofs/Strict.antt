@@ -1,4 +1,5 @@
 -- An accepted list by numbers: its items stand one above another, so that at most one of them holds a key. Assumes nothing.
+use Rattle.std.specs.Ordering.{is_lt}
 use Prim.Native.Nat.{ℕ, zero, suc, ◌+◌, ◌-◌, ◌≤◌, ◌<◌, ◌/◌}
 use mathlib.Core.Path.{◌≡◌, sym, ◌∙◌}
 use mathlib.Core.Bool.{true, ◌&&◌}
@@ -8,7 +9,6 @@ use native.Mathlib.Omega.{arith}
 use lib.ListN.{length}
 use lib.Dec.{leb}
 use borrow.Author.Tests.{ltb-true, leb-true}
-use Rattle.key_order.specs.Order.{is_less}
 use Rattle.key_order.proofs.Bools.{both_true}
 use Rattle.key_order.proofs.Line.{size}
 use Rattle.key_order.proofs.Ranks.{key_rank, extent, between_rank}
@@ -30,7 +30,7 @@ module _ (pool ws : List ℕ) where
   upright_from a n j s h l = (sound_parts pool (item_at ws j) (items_all (λ it. upright_fault pool it ≡ 0) ws a n s j h l)).2
 
   following_from : (a n j : ℕ) → Following pool (set_at ws a).end (items_from ws (suc a) n) → a ≤ j → j < a + n
-      → is_less (compare_in pool (set_at ws j).end (set_at ws (suc j)).start) ≡ true
+      → is_lt (compare_in pool (set_at ws j).end (set_at ws (suc j)).start) ≡ true
   unfolding items_from
   following_from a zero j f h l = absurd (omega arith)
   following_from a (suc n) j f h l = elim (dec_lt a j) [
@@ -38,7 +38,7 @@ module _ (pool ws : List ℕ) where
     | no p ↦ let e : j ≡ a = omega arith in rw e f.0
   ]
 
-  order_from : (n j : ℕ) → InOrder pool (items_from ws 0 n) → suc j < n → is_less (compare_in pool (set_at ws j).end (set_at ws (suc j)).start) ≡ true
+  order_from : (n j : ℕ) → InOrder pool (items_from ws 0 n) → suc j < n → is_lt (compare_in pool (set_at ws j).end (set_at ws (suc j)).start) ≡ true
   unfolding items_from
   order_from zero j o l = absurd (omega arith)
   order_from (suc n) j o l = following_from 0 n j o (omega arith) (omega arith)

@@ -1,6 +1,6 @@
 -- Refusals, their order, and the checks of items and lists. Definitions only. Assumes nothing.
-use Rattle.std.specs.Prelude.{ℕ, zero, suc, ◌+◌, ◌/◌, ◌%◌, List, [], ◌∷◌, Bool, cond, not, ◌||◌, ◌&&◌, length, ltb, eqb}
-use Rattle.key_order.specs.Order.{is_less}
+use Rattle.std.specs.Ordering.{is_lt}
+use Rattle.std.specs.Prelude.{ℕ, zero, suc, ◌+◌, ◌/◌, ◌%◌, List, [], ◌∷◌, Bool, cond, not, ◌||◌, ◌&&◌, length, ltb, eqb, Result, Ok, Err}
 use Rattle.query_item.specs.declared.KeyAt.{KeyAt}
 use Rattle.query_item.specs.declared.ItemWords.{ItemWords}
 use Rattle.query_item.specs.declared.RangeSetItem.{RangeSetItem}
@@ -8,42 +8,68 @@ use Rattle.query_item.specs.declared.RangeSet.{RangeSet}
 use Rattle.query_item.specs.Items.{item_size, items_from}
 use Rattle.query_item.specs.Boundaries.{key_of, compare_in, range_of, upright}
 use Rattle.item_check.specs.declared.Refusal.{Refusal}
-use Rattle.item_check.specs.declared.Checked.{Checked}
-use Rattle.item_check.specs.declared.Checked.TheVariants as checked
+use Rattle.item_check.specs.declared.Reason.{Reason}
+use Rattle.item_check.specs.declared.Reason.TheVariants.{
+  Malformed,
+  KeyOutside,
+  NotUpright,
+  OutOfOrder,
+  Wrapped,
+  NoRoom,
+  NoPosition,
+  NotAscending,
+  NotCanonical,
+  BadFile,
+  BadRow,
+  AmountOutside,
+  TooManyKeys,
+  EmptyWindows,
+}
 
 -- ---- answers
 
 -- 01 refusal.1: a call answers, or refuses with a number, a side (0 ours, 1 theirs) and an index
-pub data Answer (A : Type 0) : Type 0 where
-  answered : A → Answer A
-  refused_as : Refusal → Answer A
+abbrev pub Answer : Type 0 → Type 0
+Answer A = Result A Refusal
+
+-- 01 refusal.1: the number of each refusal, as the papers fix it where they speak of it; no call refuses with 11 or 13
+abbrev pub reason_number : Reason → ℕ
+reason_number Malformed = 1
+reason_number KeyOutside = 2
+reason_number NotUpright = 3
+reason_number OutOfOrder = 4
+reason_number Wrapped = 5
+reason_number NoRoom = 6
+reason_number NoPosition = 7
+reason_number NotAscending = 8
+reason_number NotCanonical = 9
+reason_number BadFile = 10
+reason_number BadRow = 12
+reason_number AmountOutside = 14
+reason_number TooManyKeys = 15
+reason_number EmptyWindows = 16
 
 abbrev pub refusal : ℕ → ℕ → ℕ → Refusal
 refusal number side index = record { number = number; side = side; index = index }
 
 abbrev pub refused : {A : Type 0} → ℕ → ℕ → ℕ → Answer A
-refused number side index = refused_as (refusal number side index)
+refused number side index = Err (refusal number side index)
 
 abbrev pub Verdict : Type 0
 Verdict = Answer (Unit {0})
 
 abbrev pub accepted : Verdict
-accepted = answered tt
+accepted = Ok tt
 
 -- 01 refusal.6: an earlier check's refusal decides
 abbrev pub and_then : {A : Type 0} → Verdict → Answer A → Answer A
-and_then (answered u) next = next
-and_then (refused_as r) next = refused_as r
+and_then (Ok u) next = next
+and_then (Err r) next = Err r
 
 -- 01 demand.1, reading A1: words that are lent for writing, afterwards: a refusal leaves them as they were
 abbrev pub words_by : {A : Type 0} → Answer A → List ℕ → List ℕ → List ℕ
-words_by (answered a) before after = after
-words_by (refused_as r) before after = before
-
--- 01 form.11: the paper's numbers for each case of a check's answer
-abbrev pub verdict_of : Checked → Verdict
-verdict_of checked.Accepted = accepted
-verdict_of (checked.Refused r) = refused_as r
+words_by (Ok a) before after = after
+words_by (Err r) before after = before
 
 -- ---- limits
 
@@ -134,7 +160,7 @@ first_bad fault side i (it ∷ its) = and_then (fault_at (fault it) side i) (fir
 unfoldable pub first_break : List ℕ → ℕ → ℕ → RangeSetItem → List ItemWords → Verdict
 first_break pool side i e [] = accepted
 first_break pool side i e (it ∷ its) =
-    cond (is_less (compare_in pool e (range_of it).start)) (first_break pool side (suc i) (range_of it).end its) (refused 4 side i)
+    cond (is_lt (compare_in pool e (range_of it).start)) (first_break pool side (suc i) (range_of it).end its) (refused 4 side i)
 
 unfoldable pub strict_verdict : List ℕ → ℕ → List ItemWords → Verdict
 strict_verdict pool side [] = accepted

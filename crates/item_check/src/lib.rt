@@ -6,25 +6,38 @@
 ghost use Rattle.std.specs.Prelude.{◌≡◌, ◌||◌, eqb};
 ghost use Rattle.query_item.specs.Items.{key_at, item_words, item_at, items_from};
 ghost use Rattle.query_item.specs.Boundaries.{set_at, upright};
-ghost use Rattle.item_check.specs.Checks.{verdict_of, refused, refusal, has_start, has_end, nonzero, malformed, key_out, item_fault, upright_fault, fault_at, pool_verdict, shape_verdict, first_bad, strict_verdict, whole_verdict, list_verdict, single_verdict, keys_verdict, set_verdict, check_verdict};
+ghost use Rattle.item_check.specs.Checks.{reason_number, refused, refusal, has_start, has_end, nonzero, malformed, key_out, item_fault, upright_fault, fault_at, pool_verdict, shape_verdict, first_bad, strict_verdict, whole_verdict, list_verdict, single_verdict, keys_verdict, set_verdict, check_verdict};
 
 use item_words::{ITEM_SIZE, item_at, query_item};
-use query_item::pooled::{at_most_in, below_in, key_of};
+use query_item::pooled::{at_most_in, below_in};
 use query_item::{ItemWords, KeyAt, RangeSet};
 
-// A refusal: its number, the side (0 ours, 1 theirs), and the index of the item, pair or position.
-#[derive(Clone, Copy)]
+// Why a call refuses, by the numbers that the papers fix.
+#[derive(Clone, Copy, PartialEq, Eq)]
+pub enum Reason {
+    Malformed = 1,
+    KeyOutside = 2,
+    NotUpright = 3,
+    OutOfOrder = 4,
+    Wrapped = 5,
+    NoRoom = 6,
+    NoPosition = 7,
+    NotAscending = 8,
+    NotCanonical = 9,
+    BadFile = 10,
+    BadRow = 12,
+    AmountOutside = 14,
+    TooManyKeys = 15,
+    EmptyWindows = 16,
+}
+
+// A refusal: its number, the side (0 ours, 1 theirs), and the index of the item, pair or position. Number and side stay numbers here: C is handed
+// them, and `refused` of specs/Checks.antt, by which every call promises, and `check_list`, for any side, hold them.
+#[derive(Clone, Copy, PartialEq, Eq)]
 pub struct Refusal {
     pub number: u32,
     pub side: u32,
     pub index: usize,
-}
-
-// What a check answers.
-#[derive(Clone, Copy)]
-pub enum Checked {
-    Accepted,
-    Refused(Refusal),
 }
 
 // The limits of document 01.
@@ -35,86 +48,80 @@ pub const MOST_POOL: usize = 65536;
 pub const MOST_KEY: u32 = 255;
 
 // Whether a list can be used in the algebra: the pool, the list's shape, its items, and that it is strict (01 no.1, no.2, no.3, no.4).
-pub fn check_list(pool: &[u8], words: &[u32], side: u32) -> Checked
-    ensures { verdict_of result ≡ check_verdict pool.now words.now side }
+pub fn check_list(pool: &[u8], words: &[u32], side: u32) -> Result<(), Refusal>
+    ensures { result ≡ check_verdict pool.now words.now side }
 {
-    match check_pool(pool) {
-        Checked::Refused(r) => Checked::Refused(r),
-        Checked::Accepted => check_words(pool, words, side),
-    }
+    check_pool(pool)?;
+    check_words(pool, words, side)
 }
 
 // inner: the same of a list whose pool is checked already.
-pub fn check_words(pool: &[u8], words: &[u32], side: u32) -> Checked
-    ensures { verdict_of result ≡ list_verdict pool.now words.now side }
+pub fn check_words(pool: &[u8], words: &[u32], side: u32) -> Result<(), Refusal>
+    ensures { result ≡ list_verdict pool.now words.now side }
 {
-    match check_shape(words, side) {
-        Checked::Refused(r) => Checked::Refused(r),
-        Checked::Accepted => check_whole(pool, words, side),
-    }
+    check_shape(words, side)?;
+    check_whole(pool, words, side)
 }
 
 // inner: the same of a list whose shape is checked already.
-pub fn check_whole(pool: &[u8], words: &[u32], side: u32) -> Checked
-    ensures { verdict_of result ≡ whole_verdict pool.now words.now side }
+pub fn check_whole(pool: &[u8], words: &[u32], side: u32) -> Result<(), Refusal>
+    ensures { result ≡ whole_verdict pool.now words.now side }
 {
     let count = words.len() / ITEM_SIZE;
-    match check_items(pool, words, count, side) {
-        Checked::Refused(r) => Checked::Refused(r),
-        Checked::Accepted => check_strict(pool, words, count, side),
+    check_items(pool, words, count, side)?;
+    check_strict(pool, words, count, side)
+}
+
+impl Reason {
+    // inner: its number.
+    pub fn number(self) -> u32
+        ensures { result ≡ reason_number self }
+    {
+        self as u32
     }
 }
 
-// inner: refuses with a number, a side and an index.
-pub fn refuse(number: u32, side: u32, index: usize) -> Checked
-    ensures { verdict_of result ≡ refused number side index }
+// inner: refuses for a reason, with a side and an index, whatever a call would answer.
+pub fn refuse<A>(reason: Reason, side: u32, index: usize) -> Result<A, Refusal>
+    ensures { result ≡ refused (reason_number reason) side index }
 {
-    Checked::Refused(refusal_of(number, side, index))
-}
-
-// inner: the refusal of a number, a side and an index.
-pub fn refusal_of(number: u32, side: u32, index: usize) -> Refusal
-    ensures { result ≡ refusal number side index }
-{
-    Refusal {
-        number,
+    Err(Refusal {
+        number: reason.number(),
         side,
         index,
-    }
+    })
 }
 
 // inner: the pool's size, before everything else.
-pub fn check_pool(pool: &[u8]) -> Checked
-    ensures { verdict_of result ≡ pool_verdict pool.now }
+pub fn check_pool(pool: &[u8]) -> Result<(), Refusal>
+    ensures { result ≡ pool_verdict pool.now }
 {
     if MOST_POOL < pool.len() {
-        return refuse(1, 0, 0);
+        return refuse(Reason::Malformed, 0, 0);
     }
-    Checked::Accepted
+    Ok(())
 }
 
 // inner: the words of a list come in sixes, and are not too many.
-pub fn check_shape(words: &[u32], side: u32) -> Checked
-    ensures { verdict_of result ≡ shape_verdict words.now side }
+pub fn check_shape(words: &[u32], side: u32) -> Result<(), Refusal>
+    ensures { result ≡ shape_verdict words.now side }
 {
     if (words.len() % ITEM_SIZE != 0) | (MOST_ITEMS < words.len() / ITEM_SIZE) {
-        return refuse(1, side, 0);
+        return refuse(Reason::Malformed, side, 0);
     }
-    Checked::Accepted
+    Ok(())
 }
 
 // inner: what the first bad one of the first count items is refused for: 1, 2 or 3. Which it is, is asked of that one alone.
-pub fn check_items(pool: &[u8], words: &[u32], count: usize, side: u32) -> Checked
-    ensures { verdict_of result ≡ first_bad (upright_fault pool.now) side 0 (items_from words.now 0 count) }
+pub fn check_items(pool: &[u8], words: &[u32], count: usize, side: u32) -> Result<(), Refusal>
+    ensures { result ≡ first_bad (upright_fault pool.now) side 0 (items_from words.now 0 count) }
 {
-    let mut i: usize = 0;
-    while i < count {
+    for i in 0..count {
         if !sound_at(pool, words, i) {
-            return refuse(upright_fault(pool, item_at(words, i)), side, i);
+            return check_upright(pool, item_at(words, i), side, i);
         }
-        i += 1;
     }
-    Checked::Accepted
+    Ok(())
 }
 
 // Whether nothing is wrong with the item at an index.
@@ -162,21 +169,18 @@ fn is_sound(pool: &[u8], code: u32, wrapper: u32, i: u32, m: u32, j: u32, n: u32
 }
 
 // inner: each of the first count items ends below the start of the next; else 4.
-pub fn check_strict(pool: &[u8], words: &[u32], count: usize, side: u32) -> Checked
-    ensures { verdict_of result ≡ strict_verdict pool.now side (items_from words.now 0 count) }
+pub fn check_strict(pool: &[u8], words: &[u32], count: usize, side: u32) -> Result<(), Refusal>
+    ensures { result ≡ strict_verdict pool.now side (items_from words.now 0 count) }
 {
     let mut end = set_at(words, 0).end;
-    let mut i: usize = 1;
-    while i < count {
+    for i in 1..count {
         let set = set_at(words, i);
-        let start = set.start;
-        if !below_in(pool, end, start) {
-            return refuse(4, side, i);
+        if !below_in(pool, end, set.start) {
+            return refuse(Reason::OutOfOrder, side, i);
         }
         end = set.end;
-        i += 1;
     }
-    Checked::Accepted
+    Ok(())
 }
 
 // inner: the two boundaries of the item at an index.
@@ -186,46 +190,35 @@ pub fn set_at(words: &[u32], i: usize) -> RangeSet
     query_item(item_at(words, i)).to_range_set()
 }
 
-// inner: what is wrong with one item, 1 or 2, and 0 for nothing.
-pub fn item_fault(pool: &[u8], item: ItemWords) -> u32
-    ensures { result ≡ item_fault pool.now item }
+// inner: what one item, at an index on a side, is refused for: 1 or 2.
+pub fn check_formed(pool: &[u8], item: ItemWords, side: u32, index: usize) -> Result<(), Refusal>
+    ensures { result ≡ fault_at (item_fault pool.now item) side index }
 {
     if is_malformed(item) {
-        return 1;
+        return refuse(Reason::Malformed, side, index);
     }
-    let start = item.start;
-    let end = item.end;
-    if are_out(pool, start, end) {
-        return 2;
+    if are_out(pool, item.start, item.end) {
+        return refuse(Reason::KeyOutside, side, index);
     }
-    0
+    Ok(())
 }
 
-// inner: what is wrong with an item that has to be upright: 1, 2 or 3, and 0 for nothing.
-pub fn upright_fault(pool: &[u8], item: ItemWords) -> u32
-    ensures { result ≡ upright_fault pool.now item }
+// inner: the same of an item that has to be upright: 1, 2 or 3.
+pub fn check_upright(pool: &[u8], item: ItemWords, side: u32, index: usize) -> Result<(), Refusal>
+    ensures { result ≡ fault_at (upright_fault pool.now item) side index }
 {
-    let fault = item_fault(pool, item);
-    if fault != 0 {
-        return fault;
+    check_formed(pool, item, side, index)?;
+    if !is_upright(pool, query_item(item).to_range_set()) {
+        return refuse(Reason::NotUpright, side, index);
     }
-    // a key is upright, whatever its bytes are
-    if item.code == 0 {
-        return 0;
-    }
-    if is_upright(pool, query_item(item).to_range_set()) {
-        return 0;
-    }
-    3
+    Ok(())
 }
 
 // inner: whether a range's start is not above its end.
 pub fn is_upright(pool: &[u8], set: RangeSet) -> bool
     ensures { result ≡ upright pool.now set }
 {
-    let start = set.start;
-    let end = set.end;
-    at_most_in(pool, start, end)
+    at_most_in(pool, set.start, set.end)
 }
 
 // inner: whether an item of a code has a start key.
@@ -246,19 +239,17 @@ pub fn has_end(code: u32) -> bool
 pub fn is_nonzero(key: KeyAt) -> bool
     ensures { result ≡ nonzero key }
 {
-    (key.offset != 0) | (key.length != 0)
+    key != KeyAt::NONE
 }
 
 // Code or wrapper unknown, or words of an absent key that are not 0.
 fn is_malformed(item: ItemWords) -> bool
     ensures { result ≡ malformed item }
 {
-    let start = item.start;
-    let end = item.end;
     (9 < item.code)
         | (3 < item.wrapper)
-        | (!has_start(item.code) & is_nonzero(start))
-        | (!has_end(item.code) & is_nonzero(end))
+        | (!has_start(item.code) & is_nonzero(item.start))
+        | (!has_end(item.code) & is_nonzero(item.end))
 }
 
 // inner: too long, or reaching past the pool.
@@ -276,42 +267,26 @@ fn are_out(pool: &[u8], start: KeyAt, end: KeyAt) -> bool
 }
 
 // inner: a single item: the pool, then 1 and 2.
-pub fn check_item(pool: &[u8], item: ItemWords) -> Checked
-    ensures { verdict_of result ≡ single_verdict pool.now item }
+pub fn check_item(pool: &[u8], item: ItemWords) -> Result<(), Refusal>
+    ensures { result ≡ single_verdict pool.now item }
 {
-    match check_pool(pool) {
-        Checked::Refused(r) => Checked::Refused(r),
-        Checked::Accepted => check_fault(item_fault(pool, item), 0, 0),
-    }
-}
-
-// inner: refuses with the number of a fault, and accepts where that is 0.
-pub fn check_fault(fault: u32, side: u32, index: usize) -> Checked
-    ensures { verdict_of result ≡ fault_at fault side index }
-{
-    if fault == 0 {
-        return Checked::Accepted;
-    }
-    refuse(fault, side, index)
+    check_pool(pool)?;
+    check_formed(pool, item, 0, 0)
 }
 
 // inner: two boundaries: the pool, then 2 for their keys.
-pub fn check_set(pool: &[u8], set: RangeSet) -> Checked
-    ensures { verdict_of result ≡ set_verdict pool.now set }
+pub fn check_set(pool: &[u8], set: RangeSet) -> Result<(), Refusal>
+    ensures { result ≡ set_verdict pool.now set }
 {
-    match check_pool(pool) {
-        Checked::Refused(r) => Checked::Refused(r),
-        Checked::Accepted => check_keys(pool, set),
-    }
+    check_pool(pool)?;
+    check_keys(pool, set)
 }
 
-fn check_keys(pool: &[u8], set: RangeSet) -> Checked
-    ensures { verdict_of result ≡ keys_verdict pool.now set }
+fn check_keys(pool: &[u8], set: RangeSet) -> Result<(), Refusal>
+    ensures { result ≡ keys_verdict pool.now set }
 {
-    let start = set.start;
-    let end = set.end;
-    if are_out(pool, key_of(start), key_of(end)) {
-        return refuse(2, 0, 0);
+    if are_out(pool, set.start.key(), set.end.key()) {
+        return refuse(Reason::KeyOutside, 0, 0);
     }
-    Checked::Accepted
+    Ok(())
 }

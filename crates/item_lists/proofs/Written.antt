@@ -1,4 +1,6 @@
 -- Items written one after another: what is left to write is written from where a pass stands, and what enough room leaves. Assumes nothing.
+use Rattle.query_item.specs.declared.QueryItem.{QueryItem}
+use Rattle.std.specs.Prelude.{Option, None, Some}
 use Prim.Native.Nat.{ℕ, suc, ◌+◌, ◌*◌, ◌/◌, ◌≤◌}
 use mathlib.Core.Path.{◌≡◌, refl, sym, ap, subst, ◌∙◌}
 use mathlib.Core.Bool.{Bool, true, false, cond}
@@ -10,15 +12,13 @@ use lib.Seq.{sets, sets-eq, length-sets}
 use lib.Dec.{ltb}
 use borrow.Author.Tests.{lt-ltb}
 use Rattle.query_item.specs.declared.ItemWords.{ItemWords}
-use Rattle.query_item.specs.declared.MaybeItem.{MaybeItem}
-use Rattle.query_item.specs.declared.MaybeItem.TheVariants.{NoItem, Item}
 use Rattle.query_item.specs.Items.{item_size, flat, flat_all, with_item}
 use Rattle.item_lists.specs.Written.{as_items, laid_over, put_all, Put}
 
 -- an item that may be missing is one at most
-pub at_most_one : (m : MaybeItem) → length (as_items m) ≤ 1
-at_most_one NoItem = omega arith
-at_most_one (Item q) = omega arith
+pub at_most_one : (m : Option QueryItem) → length (as_items m) ≤ 1
+at_most_one None = omega arith
+at_most_one (Some q) = omega arith
 
 pub length_with : (ws : List ℕ) (i : ℕ) (it : ItemWords) → length (with_item ws i it) ≡ length ws
 unfolding with_item

@@ -1,16 +1,15 @@
 -- Lists of items in lent words: as what they are written, the room that they need, and what a call leaves in a list that is lent to it.
 -- Definitions only. Assumes nothing.
-use Rattle.std.specs.Prelude.{ℕ, suc, ◌+◌, ◌/◌, ◌≡◌, List, [], ◌∷◌, ◌++◌, Bool, length, drop, ltb}
+use Rattle.query_item.specs.declared.QueryItem.{QueryItem}
+use Rattle.std.specs.Prelude.{ℕ, suc, ◌+◌, ◌/◌, ◌≡◌, List, [], ◌∷◌, ◌++◌, Bool, length, drop, ltb, Option, None, Some}
 use Rattle.query_item.specs.declared.ItemWords.{ItemWords}
-use Rattle.query_item.specs.declared.MaybeItem.{MaybeItem}
-use Rattle.query_item.specs.declared.MaybeItem.TheVariants.{NoItem, Item}
 use Rattle.query_item.specs.Items.{item_size, words_of, flat_all, with_item}
 use Rattle.item_check.specs.Checks.{Answer, words_by}
 
 -- 01 change.2: an item that may be missing, as a list of at most one, as it is written: wrappers are dropped (01 m3.7, change.1)
-abbrev pub as_items : MaybeItem → List ItemWords
-as_items NoItem = []
-as_items (Item q) = words_of 0 q ∷ []
+abbrev pub as_items : Option QueryItem → List ItemWords
+as_items None = []
+as_items (Some q) = words_of 0 q ∷ []
 
 -- 01 refusal.5: room means whole items; so many items need more than a list has
 abbrev pub passes : ℕ → List ℕ → Bool

@@ -9,7 +9,7 @@ ghost use Rattle.std.specs.Prelude.{◌≡◌, length};
 ghost use Rattle.item_lists.specs.Written.{as_items, passes, put_all};
 
 use item_words::{ITEM_SIZE, words_of, write_item};
-use query_item::MaybeItem;
+use query_item::QueryItem;
 
 // inner: whether items, so many of them, need more room than a list has.
 pub fn passes_room(count: usize, out: &[u32]) -> bool
@@ -19,12 +19,12 @@ pub fn passes_room(count: usize, out: &[u32]) -> bool
 }
 
 // inner: writes an item, if there is one, at an index, and says how many that is. Where it has no room nothing is written.
-pub fn put_item(out: &mut [u32], i: usize, item: MaybeItem) -> usize
+pub fn put_item(out: &mut [u32], i: usize, item: Option<QueryItem>) -> usize
     ensures { (result ≡ length (as_items item)) × (out.new ≡ put_all out.old i (as_items item)) }
 {
     match item {
-        MaybeItem::NoItem => 0,
-        MaybeItem::Item(q) => {
+        None => 0,
+        Some(q) => {
             write_item(out, i, words_of(0, q));
             1
         }

@@ -1,16 +1,16 @@
 -- The code of a name that is read or written. Assumes nothing.
+use borrow.Author.Tests.{ne_eqb}
 use Prim.Native.Nat.{ℕ, ◌<◌}
 use mathlib.Core.Path.{◌≡◌, refl, sym, ap, ◌∙◌}
-use mathlib.Core.Bool.{Bool, true, false, cond, ◌&&◌, false≢true}
+use mathlib.Core.Bool.{Bool, true, false, cond, ◌&&◌, false≢true, true≢false}
 use mathlib.Core.List.{List}
 use native.Mathlib.Omega.{arith}
 use lib.ListN.{length}
 use lib.Dec.{eqb}
-use borrow.Author.Tests.{eq-eqb, ne_eqb}
-use Rattle.key_order.specs.declared.Ordering.{Ordering}
-use Rattle.key_order.specs.declared.Ordering.TheVariants.{Less, Equal, Greater}
-use Rattle.key_order.specs.Order.{compare_numbers, compare_keys, is_equal}
-use Rattle.key_order.proofs.Laws.{compare_equal}
+use lib.Pointwise.{pointwise, bytes_decides}
+use borrow.Author.Tests.{eq-eqb}
+use Rattle.key_order.specs.Order.{compare_numbers, compare_keys}
+use Rattle.key_order.proofs.Laws.{compare_same}
 use Rattle.query_item.specs.Items.{same}
 use Rattle.query_item.proofs.Laws.{each_code}
 use Rattle.item_name.specs.Names.{
@@ -35,33 +35,25 @@ pub code_name : (c : ℕ) → c < 10 → code_of (name_of c) ≡ c
 unfolding compare_numbers compare_keys name_of code_of
 code_name c h = each_code (λ (c : ℕ). code_of (name_of c) ≡ c) refl refl refl refl refl refl refl refl refl refl c (omega arith)
 
--- a code past the other nine
-pub name_last : (c : ℕ) → (c ≡ 0 → ⊥) → (c ≡ 1 → ⊥) → (c ≡ 2 → ⊥) → (c ≡ 3 → ⊥) → (c ≡ 4 → ⊥)
-    → (c ≡ 5 → ⊥) → (c ≡ 6 → ⊥) → (c ≡ 7 → ⊥) → (c ≡ 8 → ⊥)
-    → name_of c ≡ range_after_to_inclusive_name
-unfolding name_of
-name_last c h0 h1 h2 h3 h4 h5 h6 h7 h8 =
-    rw (
-      ne_eqb c 0 h0,
-      ne_eqb c 1 h1,
-      ne_eqb c 2 h2,
-      ne_eqb c 3 h3,
-      ne_eqb c 4 h4,
-      ne_eqb c 5 h5,
-      ne_eqb c 6 h6,
-      ne_eqb c 7 h7,
-      ne_eqb c 8 h8,
-    )
+-- ---- names are the same where their bytes are
+
+pub same_bytes : (s w : List ℕ) → pointwise eqb s w ≡ same s w
+same_bytes s w = go (pointwise eqb s w) (same s w) refl refl
+  where
+    go : (t u : Bool) → pointwise eqb s w ≡ t → same s w ≡ u → t ≡ u
+    go true true e f = refl
+    go true false e f = absurd (true≢false (sym ((compare_same s w).1 ((bytes_decides s w).0 e)) ∙ f))
+    go false true e f = absurd (true≢false (sym ((bytes_decides s w).1 ((compare_same s w).0 f)) ∙ e))
+    go false false e f = refl
 
 -- ---- a name of another length is another name
 
 pub other_length : (s w : List ℕ) → (length s ≡ length w → ⊥) → same s w ≡ false
-other_length s w h = go (compare_keys s w) refl
+other_length s w h = go (same s w) refl
   where
-    go : (o : Ordering) → compare_keys s w ≡ o → is_equal o ≡ false
-    go Less e = refl
-    go Greater e = refl
-    go Equal e = absurd (h (ap length ((compare_equal s w).0 e)))
+    go : (t : Bool) → same s w ≡ t → t ≡ false
+    go true e = absurd (h (ap length ((compare_same s w).0 e)))
+    go false e = refl
 
 module _ (s : List ℕ) where
   -- so that a test of the length in front of a comparison changes nothing
@@ -118,3 +110,21 @@ module _ (s : List ℕ) where
         other_length s range_after_to_name h12,
         other_length s range_after_to_inclusive_name h21,
       )
+
+-- a code past the other nine
+pub name_last : (c : ℕ) → (c ≡ 0 → ⊥) → (c ≡ 1 → ⊥) → (c ≡ 2 → ⊥) → (c ≡ 3 → ⊥) → (c ≡ 4 → ⊥)
+    → (c ≡ 5 → ⊥) → (c ≡ 6 → ⊥) → (c ≡ 7 → ⊥) → (c ≡ 8 → ⊥)
+    → name_of c ≡ range_after_to_inclusive_name
+unfolding name_of
+name_last c h0 h1 h2 h3 h4 h5 h6 h7 h8 =
+    rw (
+      ne_eqb c 0 h0,
+      ne_eqb c 1 h1,
+      ne_eqb c 2 h2,
+      ne_eqb c 3 h3,
+      ne_eqb c 4 h4,
+      ne_eqb c 5 h5,
+      ne_eqb c 6 h6,
+      ne_eqb c 7 h7,
+      ne_eqb c 8 h8,
+    )

@@ -9,10 +9,10 @@ ghost use Rattle.query_item.specs.Items.{same};
 ghost use Rattle.lent_text.specs.Text.{stored};
 ghost use Rattle.item_name.specs.Names.{no_code, name_of, code_of};
 
-use key_order::{compare, is_equal};
 use lent_text::put_text;
 
-// inner: the code of a name; 10 where no item is called so. But for two, the names differ in length.
+// inner: the code of a name; 10 where no item is called so. But for two, the names differ in length. A match over the names themselves was tried: it
+// leaves a goal for each letter of each.
 pub fn code_of(name: &[u8]) -> u32
     ensures { result ≡ code_of name.now }
 {
@@ -33,36 +33,40 @@ pub fn code_of(name: &[u8]) -> u32
 fn code_if(name: &[u8], known: &[u8], code: u32) -> u32
     ensures { result ≡ cond (same name.now known.now) code no_code }
 {
-    if is_equal(compare(name, known)) {
-        return code;
-    }
-    10
+    if name == known { code } else { 10 }
 }
 
 fn full_or_from(name: &[u8]) -> u32
     requires { length name.now ≡ 9 }
     ensures { result ≡ code_of name.now }
 {
-    if is_equal(compare(name, b"RangeFull")) {
+    if name == b"RangeFull".as_slice() {
         return 3;
     }
     code_if(name, b"RangeFrom", 4)
 }
 
-// inner: the name of a code, from the place at on, written or only counted, and how many bytes that is.
-pub fn put_name(out: &mut [u8], at: usize, code: u32, write: bool) -> usize
-    ensures { (result ≡ length (name_of code)) × (out.new ≡ stored write out.old at (name_of code)) × (result ≤ 21) }
+// inner: the name of a code, from the place at on, and how many bytes that is.
+pub fn put_name(out: &mut [u8], at: usize, code: u32) -> usize
+    ensures { (result ≡ length (name_of code)) × (out.new ≡ stored out.old at (name_of code)) × (result ≤ 21) }
+{
+    put_text(out, at, name_of(code))
+}
+
+#[tactic(auto, unfolding(crate::specs::Names::name_of))]
+fn name_of(code: u32) -> &'static [u8]
+    ensures { (result.now ≡ name_of code) × (length result.now ≤ 21) }
 {
     match code {
-        0 => put_text(out, at, b"Key", write),
-        1 => put_text(out, at, b"Range", write),
-        2 => put_text(out, at, b"RangeInclusive", write),
-        3 => put_text(out, at, b"RangeFull", write),
-        4 => put_text(out, at, b"RangeFrom", write),
-        5 => put_text(out, at, b"RangeTo", write),
-        6 => put_text(out, at, b"RangeToInclusive", write),
-        7 => put_text(out, at, b"RangeAfter", write),
-        8 => put_text(out, at, b"RangeAfterTo", write),
-        _ => put_text(out, at, b"RangeAfterToInclusive", write),
+        0 => b"Key",
+        1 => b"Range",
+        2 => b"RangeInclusive",
+        3 => b"RangeFull",
+        4 => b"RangeFrom",
+        5 => b"RangeTo",
+        6 => b"RangeToInclusive",
+        7 => b"RangeAfter",
+        8 => b"RangeAfterTo",
+        _ => b"RangeAfterToInclusive",
     }
 }

@@ -9,7 +9,6 @@ ghost use Rattle.std.specs.Prelude.{◌≡◌, ◌*◌, ◌/◌, ◌<◌, length
 ghost use Rattle.std.proofs.lemmas.List.Edits.{sets};
 ghost use Rattle.query_item.specs.Items.{item_of, item_size, item_at, query_item, item_words, with_keys, words_of, flat, with_item};
 
-use key_order::least;
 use query_item::{ItemWords, KeyAt, QueryItem};
 
 // The words of an item.
@@ -37,9 +36,7 @@ pub fn item_of(code: u32, a: KeyAt, b: KeyAt) -> QueryItem
 pub fn query_item(words: ItemWords) -> QueryItem
     ensures { result ≡ query_item words }
 {
-    let a = words.start;
-    let b = words.end;
-    item_of(words.code, a, b)
+    item_of(words.code, words.start, words.end)
 }
 
 // inner: the words of the item at an index; words past the list's end are 0.
@@ -77,7 +74,7 @@ fn whole_item(words: &[u32], i: usize) -> ItemWords
 fn past_item(words: &[u32], i: usize) -> ItemWords
     ensures { result ≡ item_at words.now i }
 {
-    let at = ITEM_SIZE * least(i, words.len());
+    let at = ITEM_SIZE * i.min(words.len());
     let start = KeyAt {
         offset: word_or_zero(words, at + 2),
         length: word_or_zero(words, at + 3),
@@ -94,23 +91,18 @@ fn past_item(words: &[u32], i: usize) -> ItemWords
     }
 }
 
+// `get` with a default, named once, so that the six words of an item read alike.
 fn word_or_zero(words: &[u32], i: usize) -> u32
     ensures { result ≡ get_or words.now i 0 }
 {
-    if i < words.len() {
-        return words[i];
-    }
-    0
+    words.get(i).copied().unwrap_or(0)
 }
 
 // inner: the six words of an item with a wrapper.
 pub fn words_of(wrapper: u32, item: QueryItem) -> ItemWords
     ensures { result ≡ words_of wrapper item }
 {
-    let none = KeyAt {
-        offset: 0,
-        length: 0,
-    };
+    let none = KeyAt::NONE;
     match item {
         QueryItem::Key(a) => make_item(0, wrapper, a, none),
         QueryItem::Range(a, b) => make_item(1, wrapper, a, b),

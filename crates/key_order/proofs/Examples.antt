@@ -1,7 +1,7 @@
 -- The order of keys and of boundaries at some examples. Assumes nothing.
+use Rattle.std.specs.declared.cmp.Ordering.TheVariants.{Less, Equal, Greater}
 use mathlib.Core.Path.{◌≡◌, refl}
 use mathlib.Core.List.{[], ◌∷◌}
-use Rattle.key_order.specs.declared.Ordering.TheVariants.{Less, Equal, Greater}
 use Rattle.key_order.specs.Order.{compare_numbers, compare_keys}
 use Rattle.key_order.specs.Boundary.{at_key, exclusive_end, exclusive_start, compare_boundaries}
 

@@ -1,5 +1,7 @@
 -- The order of two keys from a place on, as a loop over both of them meets it: a turn of eight bytes, a turn of one, the ends, and blocks that agree.
 -- Assumes nothing.
+use Rattle.std.specs.declared.cmp.Ordering.{Ordering}
+use Rattle.std.specs.declared.cmp.Ordering.TheVariants.{Less, Equal, Greater}
 use Prim.Native.Nat.{ℕ, suc, ◌+◌, ◌-◌, ◌≤◌, ◌<◌, min}
 use mathlib.Core.Path.{◌≡◌, refl, sym, ap₂, ◌∙◌}
 use mathlib.Core.Logic.{◌≢◌}
@@ -10,8 +12,6 @@ use native.Mathlib.Numerals.{add-one}
 use lib.ListN.{length, take, drop, get_or, drop_of_length-le, length-drop, take-append-drop}
 use lib.Bits.{bit_or, bit_xor, or_add_and, xor_add_and, and_le_l, and_le_r}
 use lib.Seq.{drop-cons, drop-drop, length-take-le}
-use Rattle.key_order.specs.declared.Ordering.{Ordering}
-use Rattle.key_order.specs.declared.Ordering.TheVariants.{Less, Equal, Greater}
 use Rattle.key_order.specs.Order.{compare_numbers, then_by, compare_keys}
 use Rattle.key_order.specs.Words.{be}
 use Rattle.key_order.specs.Inner.{Reached}

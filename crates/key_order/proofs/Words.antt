@@ -1,4 +1,6 @@
 -- Big-endian numbers: of eight bytes, and how two lists of bytes of one length stand as their numbers do. Assumes nothing.
+use Rattle.std.specs.declared.cmp.Ordering.{Ordering}
+use Rattle.std.specs.declared.cmp.Ordering.TheVariants.{Less, Equal, Greater}
 use Prim.Native.Nat.{ℕ, zero, suc, ◌+◌, ◌-◌, ◌*◌, ◌^◌, ◌<◌}
 use mathlib.Core.Path.{◌≡◌, refl}
 use mathlib.Core.List.{List, [], ◌∷◌}
@@ -6,8 +8,6 @@ use native.Mathlib.Omega.{arith}
 use native.Mathlib.Nat.{mul-le-mul_right, pow-suc, pow-zero}
 use lib.ListN.{length, get_or, take, drop, length-drop}
 use lib.Seq.{drop-cons, drop-length, get_or-drop}
-use Rattle.key_order.specs.declared.Ordering.{Ordering}
-use Rattle.key_order.specs.declared.Ordering.TheVariants.{Less, Equal, Greater}
 use Rattle.key_order.specs.Order.{compare_numbers, then_by, compare_keys}
 use Rattle.key_order.specs.Words.{be}
 use Rattle.key_order.proofs.Numbers.{Says, numbers_say}

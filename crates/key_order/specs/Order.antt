@@ -1,7 +1,7 @@
 -- The order of keys. A key is a list of bytes. Definitions only. Assumes nothing.
+use Rattle.std.specs.declared.cmp.Ordering.{Ordering}
+use Rattle.std.specs.declared.cmp.Ordering.TheVariants.{Less, Equal, Greater}
 use Rattle.std.specs.Prelude.{ℕ, Bool, true, false, List, [], ◌∷◌, ltb}
-use Rattle.key_order.specs.declared.Ordering.{Ordering}
-use Rattle.key_order.specs.declared.Ordering.TheVariants.{Less, Equal, Greater}
 
 -- 01 keys.1: Less where the first test holds, Greater where only the second does, else Equal
 abbrev pub by_tests : Bool → Bool → Ordering
@@ -41,25 +41,3 @@ order_number Greater = 2
 
 abbrev pub number_order : ℕ → Ordering
 number_order x = by_tests (ltb x 1) (ltb 1 x)
-
--- 01 m1.1: tests of an answer: less, less or equal, equal, greater
-
-abbrev pub is_less : Ordering → Bool
-is_less Less = true
-is_less Equal = false
-is_less Greater = false
-
-abbrev pub is_at_most : Ordering → Bool
-is_at_most Less = true
-is_at_most Equal = true
-is_at_most Greater = false
-
-abbrev pub is_equal : Ordering → Bool
-is_equal Less = false
-is_equal Equal = true
-is_equal Greater = false
-
-abbrev pub is_greater : Ordering → Bool
-is_greater Less = false
-is_greater Equal = false
-is_greater Greater = true

@@ -1,7 +1,6 @@
 -- How long the text of a key is, and its digits stored byte by byte. Assumes nothing.
 use Prim.Native.Nat.{ℕ, suc, ◌+◌, ◌*◌, ◌≤◌, ◌<◌}
 use mathlib.Core.Path.{◌≡◌, refl, ap, ◌∙◌}
-use mathlib.Core.Bool.{Bool}
 use mathlib.Core.List.{List, [], ◌∷◌}
 use native.Mathlib.Numerals.{add-one}
 use native.Mathlib.Omega.{arith}
@@ -44,26 +43,23 @@ key_short pool k bs is h = rw is (omega (arith, length-take k.length (drop k.off
 
 -- ---- a byte and a key stored
 
-pub marked_stored : (w : Bool) (l m o : List ℕ) (at n mark : ℕ) (pool : List ℕ) (k : KeyAt) (bs : List ℕ) → bs ≡ bytes_of pool k
-    → m ≡ stored w l at (mark ∷ []) → n ≡ length (key_text bs) → o ≡ stored w m (at + 1) (key_text bs)
-    → (1 + n ≡ length (marked_key mark pool k)) × (o ≡ stored w l at (marked_key mark pool k))
-marked_stored w l m o at n mark pool k bs is is_m is-n is-o =
-    let two = stored_next w l m o at 1 n (mark ∷ []) (key_text bs) is_m refl is-o is-n in
+pub marked_stored : (l m o : List ℕ) (at n mark : ℕ) (pool : List ℕ) (k : KeyAt) (bs : List ℕ) → bs ≡ bytes_of pool k
+    → m ≡ stored l at (mark ∷ []) → n ≡ length (key_text bs) → o ≡ stored m (at + 1) (key_text bs)
+    → (1 + n ≡ length (marked_key mark pool k)) × (o ≡ stored l at (marked_key mark pool k))
+marked_stored l m o at n mark pool k bs is is_m is-n is-o =
+    let two = stored_next l m o at 1 n (mark ∷ []) (key_text bs) is_m refl is-o is-n in
     let same : key_text bs ≡ key_text (bytes_of pool k) = ap key_text is in
-    (two.0 ∙ ap (λ (x : List ℕ). length (mark ∷ x)) same, two.1 ∙ ap (λ (x : List ℕ). stored w l at (mark ∷ x)) same)
+    (two.0 ∙ ap (λ (x : List ℕ). length (mark ∷ x)) same, two.1 ∙ ap (λ (x : List ℕ). stored l at (mark ∷ x)) same)
 
 -- ---- a turn over a key's bytes: storing what is left gives what storing from this byte on gives
 
-pub hex_start : (w : Bool) (l k : List ℕ) (at : ℕ) → stored w l (at + (1 + 2 * 0)) (hex_text (drop 0 k)) ≡ stored w l (at + 1) (hex_text k)
-hex_start w l k at = let q : at + (1 + 2 * 0) ≡ at + 1 = omega arith in rw q
-
-pub hex_turn : (w : Bool) (l m k : List ℕ) (at i : ℕ) → i < length k → m ≡ stored w l (at + (1 + 2 * i)) (hex_byte (get_or k i 0))
-    → stored w m (at + (1 + 2 * (i + 1))) (hex_text (drop (i + 1) k)) ≡ stored w l (at + (1 + 2 * i)) (hex_text (drop i k))
+pub hex_turn : (l m k : List ℕ) (at i : ℕ) → i < length k → m ≡ stored l (at + (1 + 2 * i)) (hex_byte (get_or k i 0))
+    → stored m (at + (1 + 2 * (i + 1))) (hex_text (drop (i + 1) k)) ≡ stored l (at + (1 + 2 * i)) (hex_text (drop i k))
 unfolding hex_text
-hex_turn w l m k at i h is =
+hex_turn l m k at i h is =
     let q : at + (1 + 2 * (i + 1)) ≡ at + (1 + 2 * i) + 2 = omega arith in
-    rw (is, q, add-one i, drop-cons k i 0 h) (stored_append w l (at + (1 + 2 * i)) (hex_byte (get_or k i 0)) (hex_text (drop (suc i) k)))
+    rw (is, q, add-one i, drop-cons k i 0 h) (stored_append l (at + (1 + 2 * i)) (hex_byte (get_or k i 0)) (hex_text (drop (suc i) k)))
 
-pub hex_done : (w : Bool) (l k : List ℕ) (at i : ℕ) → length k ≤ i → stored w l at (hex_text (drop i k)) ≡ l
+pub hex_done : (l k : List ℕ) (at i : ℕ) → length k ≤ i → stored l at (hex_text (drop i k)) ≡ l
 unfolding hex_text
-hex_done w l k at i h = rw (drop_of_length-le k {i = i} h) (stored_none w l at)
+hex_done l k at i h = rw (drop_of_length-le k {i = i} h) (stored_none l at)

@@ -1,11 +1,12 @@
 -- The first key at or past a start: a range holds that key, or none. Assumes nothing.
+use Rattle.std.specs.declared.cmp.Ordering.{Ordering}
+use Rattle.std.specs.declared.cmp.Ordering.TheVariants.{Less, Equal, Greater}
+use Rattle.std.specs.Ordering.{is_lt, is_le, is_eq}
 use Prim.Native.Nat.{ℕ}
 use mathlib.Core.Path.{◌≡◌, refl, sym, ◌∙◌}
 use mathlib.Core.Bool.{true, not}
 use mathlib.Core.List.{List, []}
-use Rattle.key_order.specs.declared.Ordering.{Ordering}
-use Rattle.key_order.specs.declared.Ordering.TheVariants.{Less, Equal, Greater}
-use Rattle.key_order.specs.Order.{compare_numbers, compare_keys, is_less, is_at_most, is_equal}
+use Rattle.key_order.specs.Order.{compare_numbers, compare_keys}
 use Rattle.key_order.specs.Boundary.{exclusive_end, inclusive, exclusive_start, Boundary, unbounded_start, unbounded_end, at_key, compare_boundaries}
 use Rattle.key_order.proofs.Laws.{empty_at_most, next_at_most}
 use Rattle.query_item.proofs.Held.{tie_equal, tie_greater}
@@ -27,13 +28,13 @@ EndsAt (at_key b exclusive_end) = Unit {0}
 EndsAt (at_key b inclusive) = Unit {0}
 EndsAt (at_key b exclusive_start) = ⊥
 
-equal_not_less : (o : Ordering) → is_at_most o ≡ true → is_equal o ≡ not (is_less o)
+equal_not_less : (o : Ordering) → is_le o ≡ true → is_eq o ≡ not (is_lt o)
 equal_not_less Less h = refl
 equal_not_less Equal h = refl
 equal_not_less Greater h = h
 
 -- a key is at or past a start exactly where it is at or past the first key
-pub from_first : (s : Boundary) → StartsAt s → (k : List ℕ) → is_at_most (compare_boundaries s (at_key k inclusive)) ≡ is_at_most (compare_keys (first_key s) k)
+pub from_first : (s : Boundary) → StartsAt s → (k : List ℕ) → is_le (compare_boundaries s (at_key k inclusive)) ≡ is_le (compare_keys (first_key s) k)
 unfolding compare_boundaries compare_numbers
 from_first unbounded_start h k = sym (empty_at_most k)
 from_first unbounded_end h k = absurd h
@@ -42,8 +43,8 @@ from_first (at_key a inclusive) h k = tie_equal (compare_keys a k)
 from_first (at_key a exclusive_start) h k = tie_greater (compare_keys a k) ∙ next_at_most a k
 
 -- an upright range is of the two kinds exactly where its first key is past its end
-pub keyless_first : (s e : Boundary) → StartsAt s → EndsAt e → is_at_most (compare_boundaries s e) ≡ true
-    → keyless_between s e ≡ not (is_at_most (compare_boundaries (at_key (first_key s) inclusive) e))
+pub keyless_first : (s e : Boundary) → StartsAt s → EndsAt e → is_le (compare_boundaries s e) ≡ true
+    → keyless_between s e ≡ not (is_le (compare_boundaries (at_key (first_key s) inclusive) e))
 unfolding compare_boundaries compare_numbers
 keyless_first unbounded_start unbounded_start h k u = absurd k
 keyless_first unbounded_start unbounded_end h k u = refl

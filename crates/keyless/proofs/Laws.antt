@@ -1,5 +1,6 @@
 -- Each law that a caller cites: an upright range is of the two kinds exactly where it holds no key, of any length, and a part of a range
 -- that holds no key holds none; which ranges are left out is told by their boundaries. Assumes nothing.
+use Rattle.std.specs.Ordering.{is_le}
 use Prim.Native.Nat.{ℕ, ◌+◌, ◌≤◌, ◌<◌}
 use mathlib.Core.Path.{◌≡◌, refl, sym, ap, ◌∙◌}
 use mathlib.Core.Bool.{Bool, true, false, not, ◌&&◌, and-false, not-not}
@@ -10,7 +11,6 @@ use native.Mathlib.Nat.{le_refl}
 use native.Mathlib.Omega.{arith}
 use lib.Dec.{leb, ltb}
 use borrow.Author.Tests.{leb-true, leb-false, le-leb, lt-leb, lt-ltb, le-ltb}
-use Rattle.key_order.specs.Order.{is_at_most}
 use Rattle.key_order.specs.Boundary.{Boundary, at_key, inclusive, compare_boundaries, between}
 use Rattle.key_order.proofs.Line.{size}
 use Rattle.key_order.proofs.Laws.{compare_refl}
@@ -31,7 +31,7 @@ pub use Rattle.keyless.proofs.Firsts.{StartsAt, EndsAt}
 
 -- ---- by boundaries
 
-module _ (s e : Boundary) (h : StartsAt s) (k : EndsAt e) (u : is_at_most (compare_boundaries s e) ≡ true) where
+module _ (s e : Boundary) (h : StartsAt s) (k : EndsAt e) (u : is_le (compare_boundaries s e) ≡ true) where
   -- a range that is not of the two kinds holds its first key
   pub some_key : keyless_between s e ≡ false → between s e (first_key s) ≡ true
   some_key f = rw (from_first s h (first_key s), compare_refl (first_key s)) (sym (not-not _) ∙ ap not (sym (keyless_first s e h k u) ∙ f))
@@ -65,9 +65,9 @@ module _ (s e : Boundary) (h : StartsAt s) (k : EndsAt e) (u : is_at_most (compa
       go false p none = p ∙ sym (none (first_key s)) ∙ some_key p
 
 -- a part of a range that holds no key holds none
-pub part_keyless : (s e s' e' : Boundary) → StartsAt s → EndsAt e → is_at_most (compare_boundaries s e) ≡ true
-    → StartsAt s' → EndsAt e' → is_at_most (compare_boundaries s' e') ≡ true
-    → is_at_most (compare_boundaries s s') ≡ true → is_at_most (compare_boundaries e' e) ≡ true → keyless_between s e ≡ true → keyless_between s' e' ≡ true
+pub part_keyless : (s e s' e' : Boundary) → StartsAt s → EndsAt e → is_le (compare_boundaries s e) ≡ true
+    → StartsAt s' → EndsAt e' → is_le (compare_boundaries s' e') ≡ true
+    → is_le (compare_boundaries s s') ≡ true → is_le (compare_boundaries e' e) ≡ true → keyless_between s e ≡ true → keyless_between s' e' ≡ true
 part_keyless s e s' e' h k u h' k' u' l m t = (keyless_exact s' e' h' k' u').1 none
   where
     within : (a b c d x : ℕ) → a ≤ b → c ≤ d → leb a x && leb x d ≡ false → leb b x && leb x c ≡ false

@@ -1,11 +1,11 @@
 -- Section 2 of document 02: ranges that hold no key, told by their two boundaries. Definitions only. Assumes nothing.
-use Rattle.std.specs.Prelude.{ℕ, List, [], ◌∷◌, ◌++◌, Bool, false, cond, not}
-use Rattle.key_order.specs.Order.{compare_keys, is_equal}
+use Rattle.query_item.specs.declared.QueryItem.{QueryItem}
+use Rattle.std.specs.Ordering.{is_eq}
+use Rattle.std.specs.Prelude.{ℕ, List, [], ◌∷◌, ◌++◌, Bool, false, cond, not, Option, None}
+use Rattle.key_order.specs.Order.{compare_keys}
 use Rattle.key_order.specs.Boundary.{exclusive_end, inclusive, exclusive_start, Boundary, unbounded_start, unbounded_end, at_key}
 use Rattle.intervals.specs.Lists.{keep}
 use Rattle.query_item.specs.declared.RangeSet.{RangeSet}
-use Rattle.query_item.specs.declared.MaybeItem.{MaybeItem}
-use Rattle.query_item.specs.declared.MaybeItem.TheVariants.{NoItem}
 use Rattle.query_item.specs.Boundaries.{boundary_of, to_query_item}
 
 -- 02 §2.2: a key with one zero byte more
@@ -16,7 +16,7 @@ next_key k = k ++ (0 ∷ [])
 abbrev pub opens_at : List ℕ → Boundary → Bool
 opens_at k unbounded_start = false
 opens_at k unbounded_end = false
-opens_at k (at_key b exclusive_end) = is_equal (compare_keys k b)
+opens_at k (at_key b exclusive_end) = is_eq (compare_keys k b)
 opens_at k (at_key b inclusive) = false
 opens_at k (at_key b exclusive_start) = false
 
@@ -50,5 +50,5 @@ keyed pool S = keep (λ s. not (keyless pool s)) S
 -- ---- no promise of a public call cites this
 
 -- 02 §2.1: the item of one piece of a result list, none where it holds no key
-abbrev pub piece_item : List ℕ → RangeSet → MaybeItem
-piece_item pool s = cond (keyless pool s) NoItem (to_query_item pool s)
+abbrev pub piece_item : List ℕ → RangeSet → Option QueryItem
+piece_item pool s = cond (keyless pool s) None (to_query_item pool s)

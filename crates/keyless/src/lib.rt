@@ -6,49 +6,47 @@
 // the bytes before it.
 #![tactic(auto)]
 
+ghost use Rattle.std.specs.Ordering.{is_eq};
 ghost use Rattle.std.specs.Prelude.{◌≡◌, []};
-ghost use Rattle.key_order.specs.Order.{compare_keys, is_equal};
+ghost use Rattle.key_order.specs.Order.{compare_keys};
 ghost use Rattle.query_item.specs.Items.{bytes_of};
 ghost use Rattle.query_item.specs.Boundaries.{boundary_of, from_to};
 ghost use Rattle.query_item.specs.declared.RangeSetItem.TheVariants.{UnboundedStart, ExclusiveStart};
 ghost use Rattle.keyless.specs.Keyless.{next_key, opens_at, piece_item};
 
-use key_order::is_equal;
 use query_item::convert::{item_after, item_from, item_to};
 use query_item::pooled::key_bytes;
-use query_item::{KeyAt, MaybeItem, RangeSet, RangeSetItem};
+use query_item::{KeyAt, QueryItem, RangeSet, RangeSetItem};
 
 // inner: the item of a piece of a result list; none where the piece holds no key (02 §2.1).
-pub fn piece_item(pool: &[u8], s: RangeSet) -> MaybeItem
+pub fn piece_item(pool: &[u8], s: RangeSet) -> Option<QueryItem>
     ensures { result ≡ piece_item pool.now s }
 {
-    let start = s.start;
-    let end = s.end;
-    match start {
-        RangeSetItem::Inclusive(a) => item_from(pool, a, end),
-        RangeSetItem::ExclusiveStart(a) => piece_after(pool, a, end),
-        RangeSetItem::UnboundedStart => piece_to(pool, end),
-        RangeSetItem::UnboundedEnd => MaybeItem::NoItem,
-        RangeSetItem::ExclusiveEnd(_) => MaybeItem::NoItem,
+    match s.start {
+        RangeSetItem::Inclusive(a) => item_from(pool, a, s.end),
+        RangeSetItem::ExclusiveStart(a) => piece_after(pool, a, s.end),
+        RangeSetItem::UnboundedStart => piece_to(pool, s.end),
+        RangeSetItem::UnboundedEnd => None,
+        RangeSetItem::ExclusiveEnd(_) => None,
     }
 }
 
 // The item of a piece that starts just past the key a.
-fn piece_after(pool: &[u8], a: KeyAt, end: RangeSetItem) -> MaybeItem
+fn piece_after(pool: &[u8], a: KeyAt, end: RangeSetItem) -> Option<QueryItem>
     ensures { result ≡ piece_item pool.now (from_to (ExclusiveStart a) end) }
 {
     if is_below_next(pool, a, end) {
-        return MaybeItem::NoItem;
+        return None;
     }
     item_after(a, end)
 }
 
 // The item of a piece that starts before every key.
-fn piece_to(pool: &[u8], end: RangeSetItem) -> MaybeItem
+fn piece_to(pool: &[u8], end: RangeSetItem) -> Option<QueryItem>
     ensures { result ≡ piece_item pool.now (from_to UnboundedStart end) }
 {
     if is_below_empty(pool, end) {
-        return MaybeItem::NoItem;
+        return None;
     }
     item_to(end)
 }
@@ -59,10 +57,7 @@ fn is_below_empty(pool: &[u8], end: RangeSetItem) -> bool
 {
     match end {
         RangeSetItem::ExclusiveEnd(b) => is_empty(key_bytes(pool, b)),
-        RangeSetItem::UnboundedStart => false,
-        RangeSetItem::UnboundedEnd => false,
-        RangeSetItem::Inclusive(_) => false,
-        RangeSetItem::ExclusiveStart(_) => false,
+        _ => false,
     }
 }
 
@@ -72,23 +67,20 @@ fn is_below_next(pool: &[u8], a: KeyAt, end: RangeSetItem) -> bool
 {
     match end {
         RangeSetItem::ExclusiveEnd(b) => is_next_key(pool, a, b),
-        RangeSetItem::UnboundedStart => false,
-        RangeSetItem::UnboundedEnd => false,
-        RangeSetItem::Inclusive(_) => false,
-        RangeSetItem::ExclusiveStart(_) => false,
+        _ => false,
     }
 }
 
 // Whether a key is the empty one.
 fn is_empty(b: &[u8]) -> bool
-    ensures { result ≡ is_equal (compare_keys [] b.now) }
+    ensures { result ≡ is_eq (compare_keys [] b.now) }
 {
-    b.len() == 0
+    b.is_empty()
 }
 
 // Whether the key b is the key a with one zero byte more. Where a lies in the pool, no key that is named as no longer than it can be.
 fn is_next_key(pool: &[u8], a: KeyAt, b: KeyAt) -> bool
-    ensures { result ≡ is_equal (compare_keys (next_key (bytes_of pool.now a)) (bytes_of pool.now b)) }
+    ensures { result ≡ is_eq (compare_keys (next_key (bytes_of pool.now a)) (bytes_of pool.now b)) }
 {
     if (b.length <= a.length) & (a.offset as usize + a.length as usize <= pool.len()) {
         return false;
@@ -98,7 +90,7 @@ fn is_next_key(pool: &[u8], a: KeyAt, b: KeyAt) -> bool
 
 // Whether b is a with one zero byte more: the lengths, then the last byte, then the bytes before it.
 fn is_next(a: &[u8], b: &[u8]) -> bool
-    ensures { result ≡ is_equal (compare_keys (next_key a.now) b.now) }
+    ensures { result ≡ is_eq (compare_keys (next_key a.now) b.now) }
 {
     let n = a.len();
     if b.len() <= n {
@@ -110,5 +102,5 @@ fn is_next(a: &[u8], b: &[u8]) -> bool
     if b[n] != 0 {
         return false;
     }
-    is_equal(key_order::compare(a, &b[0..n]))
+    key_order::compare(a, &b[0..n]).is_eq()
 }

@@ -1,23 +1,19 @@
--- What a reader of `krl_file` may cite, in the order of specs/. The answer: `file_answer_apart`, and what is known where the call answers,
--- `answered→read`. The file: `well-formed→whole`, `head_fits`, `counts_few`, `room_enough`, `length_pool`, `length_ours`, `length_theirs`.
+-- What a reader of `krl_file` may cite, in the order of specs/. The answer: what is known where the call answers, `answered→read`. The file: `well-formed→whole`, `head_fits`, `counts_few`, `room_enough`, `length_pool`, `length_ours`, `length_theirs`.
 -- The lent lists: `length_laid`, `ours_read_back`, `theirs_read_back`. Assumes nothing.
+use Rattle.std.specs.Prelude.{Ok}
 use Prim.Native.Nat.{ℕ, ◌+◌, ◌*◌, ◌/◌, ◌≤◌}
-use mathlib.Core.Path.{◌≡◌, refl, sym, ap}
+use mathlib.Core.Path.{◌≡◌, refl, sym}
 use mathlib.Core.Bool.{Bool, true, false, cond, ◌||◌}
 use mathlib.Core.List.{List, []}
 use native.Mathlib.Omega.{arith}
 use lib.ListN.{length, drop, length-take, length-drop, length-append}
 use borrow.Author.Tests.{ltb-false, le-ltb}
-use Rattle.key_order.proofs.Impossible.{impossible}
 use Rattle.query_item.specs.declared.ItemWords.{ItemWords}
 use Rattle.query_item.specs.Items.{item_size, items_from, flat_all}
-use Rattle.item_check.specs.Checks.{Answer, answered, refused, accepted, and_then}
-use Rattle.item_check.proofs.Laws.{refused_apart}
+use Rattle.item_check.specs.Checks.{Answer, refused, accepted, and_then}
 use Rattle.krl_file.specs.declared.FileParts.{FileParts}
-use Rattle.krl_file.specs.declared.FileAnswer.{FileAnswer}
-use Rattle.krl_file.specs.declared.FileAnswer.TheVariants.{Read, Refused}
 use Rattle.krl_file.specs.File.{head_size, record_size, pool_length, ours_count, theirs_count, ours_from, theirs_from, well_formed, pool_of, ours_of}
-use Rattle.krl_file.specs.File.{theirs_of, file_answer_of, parts_of, file_room_answer, file_answer}
+use Rattle.krl_file.specs.File.{theirs_of, parts_of, file_room_answer, file_answer}
 use Rattle.item_lists.specs.Written.{passes, laid_over}
 use Rattle.item_lists.proofs.Written.{length_flat}
 use Rattle.item_lists.proofs.Read.{items_read_lem}
@@ -27,13 +23,6 @@ pub use Rattle.krl_file.proofs.Room.{WholeFile, well-formed→whole}
 
 -- ---- the answer
 
--- the numbers that an answer stands for tell any two answers apart
-pub file_answer_apart : (r s : FileAnswer) → file_answer_of r ≡ file_answer_of s → r ≡ s
-file_answer_apart (Read p) (Read q) e = cc
-file_answer_apart (Read p) (Refused s) e = cc
-file_answer_apart (Refused r) (Read q) e = cc
-file_answer_apart (Refused r) (Refused s) e = ap Refused (refused_apart r s e)
-
 -- what is known of a file and of the lent lists where the call answers
 pub record ReadFile (file ours theirs : List ℕ) (p : FileParts) : Type 0 where
   pub parts : p ≡ parts_of file
@@ -41,11 +30,11 @@ pub record ReadFile (file ours theirs : List ℕ) (p : FileParts) : Type 0 where
   pub ours_room : ours_count file ≤ length ours / item_size
   pub theirs_room : theirs_count file ≤ length theirs / item_size
 
-pub answered→read : (file ours theirs : List ℕ) (p : FileParts) → file_answer file ours theirs ≡ answered p → ReadFile file ours theirs p
+pub answered→read : (file ours theirs : List ℕ) (p : FileParts) → file_answer file ours theirs ≡ Ok p → ReadFile file ours theirs p
 answered→read file ours theirs p = formed (well_formed file) refl
   where
     room : (t u : Bool) → t ≡ passes (ours_count file) ours → u ≡ passes (theirs_count file) theirs → well_formed file ≡ true
-        → ◌≡◌ {A = Answer FileParts} (and_then (cond (t || u) (refused 6 0 0) accepted) (answered (parts_of file))) (answered p)
+        → ◌≡◌ {A = Answer FileParts} (and_then (cond (t || u) (refused 6 0 0) accepted) (Ok (parts_of file))) (Ok p)
         → ReadFile file ours theirs p
     room false false o h w e = record {
       parts = cc;
@@ -53,14 +42,14 @@ answered→read file ours theirs p = formed (well_formed file) refl
       ours_room = ltb-false (length ours / item_size) (ours_count file) (sym o);
       theirs_room = ltb-false (length theirs / item_size) (theirs_count file) (sym h);
     }
-    room true u o h w e = impossible cc
-    room false true o h w e = impossible cc
+    room true u o h w e = cc
+    room false true o h w e = cc
 
     formed : (f : Bool) → well_formed file ≡ f
-        → ◌≡◌ {A = Answer FileParts} (and_then (cond f accepted (refused 10 0 0)) (file_room_answer file ours theirs)) (answered p)
+        → ◌≡◌ {A = Answer FileParts} (and_then (cond f accepted (refused 10 0 0)) (file_room_answer file ours theirs)) (Ok p)
         → ReadFile file ours theirs p
     formed true w e = room (passes (ours_count file) ours) (passes (theirs_count file) theirs) refl refl w e
-    formed false w e = impossible cc
+    formed false w e = cc
 
 -- ---- the file
 
@@ -75,7 +64,7 @@ counts_few file w = let v = well-formed→whole file w in omega (arith, v.small,
 
 -- two lists with room for so many are never refused with 6
 pub room_enough : (file ours theirs : List ℕ) → well_formed file ≡ true → 8190 ≤ length ours / item_size → 8190 ≤ length theirs / item_size
-    → file_answer file ours theirs ≡ answered (parts_of file)
+    → file_answer file ours theirs ≡ Ok (parts_of file)
 room_enough file ours theirs w o h =
     let few = counts_few file w in
     rw (w, le-ltb (length ours / item_size) (ours_count file) (omega arith), le-ltb (length theirs / item_size) (theirs_count file) (omega arith))

@@ -6,7 +6,7 @@ use native.Mathlib.Omega.{arith}
 use lib.ListN.{length}
 use Rattle.query_item.specs.Items.{item_size, with_item}
 use Rattle.item_lists.specs.Written.{laid_over}
-use Rattle.item_lists.proofs.Written.{Left, left_start, left_one, left_done, put_laid}
+use Rattle.item_lists.proofs.Written.{Left, left_one, left_done, put_laid}
 use Rattle.krl_file.specs.File.{record_size, record_at, records_from}
 
 pub length_records : (file : List ℕ) (at n : ℕ) → length (records_from file at n) ≡ n
@@ -14,32 +14,22 @@ unfolding records_from
 length_records file at zero = refl
 length_records file at (suc n) = ap suc (length_records file (at + record_size) n)
 
--- n records from a byte on are to be written to the front of out₀; i are, and the next one starts at a byte
-pub record Writing (file : List ℕ) (from n : ℕ) (out₀ out : List ℕ) (at i : ℕ) : Type 0 where
-  pub within : i ≤ n
-  pub place : at ≡ from + record_size * i
-  pub left : Left (records_from file from n) out₀ 0 out i (records_from file at (n - i))
+-- n records from a byte on are to be written to the front of out₀, and i are
+abbrev pub Writing : List ℕ → ℕ → ℕ → List ℕ → List ℕ → ℕ → Type 0
+Writing file from n out₀ out i = Left (records_from file from n) out₀ 0 out i (records_from file (from + record_size * i) (n - i))
 
-pub writing_start : (file : List ℕ) (from n : ℕ) (out : List ℕ) → Writing file from n out out from 0
-writing_start file from n out =
-    let all : n - 0 ≡ n = omega arith in
-    record { within = omega arith; place = omega arith; left = rw all (left_start (records_from file from n) out 0) }
-
-module _ {file : List ℕ} {from n : ℕ} {out₀ out : List ℕ} {at i : ℕ} (v : Writing file from n out₀ out at i) where
+module _ (file : List ℕ) (from n : ℕ) (out₀ out : List ℕ) (i : ℕ) (v : Writing file from n out₀ out i) where
   -- the next record is written
-  pub writing_more : {out' : List ℕ} → i < n → out' ≡ with_item out i (record_at file at) → Writing file from n out₀ out' (at + record_size) (i + 1)
+  pub writing_more : {out' : List ℕ} → i < n → out' ≡ with_item out i (record_at file (from + record_size * i)) → Writing file from n out₀ out' (i + 1)
   unfolding records_from
   writing_more h e =
       let more : n - i ≡ suc (n - (i + 1)) = omega arith in
-      record {
-        within = omega arith;
-        place = omega (arith, v.place);
-        left = left_one v.left (rw more) e;
-      }
+      let next : from + record_size * (i + 1) ≡ from + record_size * i + record_size = omega arith in
+      rw next (left_one v (rw more) e)
 
   -- nothing is left
   pub writing_done : n ≤ i → n ≤ length out₀ / item_size → out ≡ laid_over out₀ (records_from file from n)
   unfolding records_from
   writing_done h room =
       let none : n - i ≡ 0 = omega arith in
-      put_laid (records_from file from n) (left_done v.left (rw none)) (rw (length_records file from n) room)
+      put_laid (records_from file from n) (left_done v (rw none)) (rw (length_records file from n) room)

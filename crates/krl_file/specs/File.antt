@@ -1,12 +1,10 @@
 -- Module 7 of document 01: the KRL file, and reading it to lent lists of items. Definitions only. Assumes nothing.
-use Rattle.std.specs.Prelude.{ℕ, zero, suc, ◌+◌, ◌*◌, List, [], ◌∷◌, Bool, cond, ◌||◌, ◌&&◌, length, get_or, take, drop, leb, eqb}
+use Rattle.std.specs.Prelude.{ℕ, zero, suc, ◌+◌, ◌*◌, List, [], ◌∷◌, Bool, cond, ◌||◌, ◌&&◌, length, get_or, take, drop, leb, eqb, Ok}
 use Rattle.query_item.specs.declared.ItemWords.{ItemWords}
 use Rattle.query_item.specs.Items.{key_at, item_words}
-use Rattle.item_check.specs.Checks.{Answer, answered, refused, Verdict, accepted, and_then, refused_as}
+use Rattle.item_check.specs.Checks.{Answer, refused, Verdict, accepted, and_then}
 use Rattle.item_lists.specs.Written.{passes}
 use Rattle.krl_file.specs.declared.FileParts.{FileParts}
-use Rattle.krl_file.specs.declared.FileAnswer.{FileAnswer}
-use Rattle.krl_file.specs.declared.FileAnswer.TheVariants as file-answer
 
 -- ---- the head
 
@@ -98,11 +96,7 @@ theirs_of file = records_from file (theirs_from file) (theirs_count file)
 
 -- ---- the call: 10, then the room of the two lists
 
--- 01 form.11: the paper's numbers for each case of the answer
-abbrev pub file_answer_of : FileAnswer → Answer FileParts
-file_answer_of (file-answer.Read p) = answered p
-file_answer_of (file-answer.Refused r) = refused_as r
-
+-- 01 m7.1: the pool's length and the two counts
 abbrev pub parts_of : List ℕ → FileParts
 parts_of file = record { pool = pool_length file; ours = ours_count file; theirs = theirs_count file }
 
@@ -111,7 +105,7 @@ abbrev pub file_room_verdict : FileParts → List ℕ → List ℕ → Verdict
 file_room_verdict p ours theirs = cond (passes p.ours ours || passes p.theirs theirs) (refused 6 0 0) accepted
 
 abbrev pub file_room_answer : List ℕ → List ℕ → List ℕ → Answer FileParts
-file_room_answer file ours theirs = and_then (file_room_verdict (parts_of file) ours theirs) (answered (parts_of file))
+file_room_answer file ours theirs = and_then (file_room_verdict (parts_of file) ours theirs) (Ok (parts_of file))
 
 -- 01 refusal.6: 10 first, 6 last
 abbrev pub file_answer : List ℕ → List ℕ → List ℕ → Answer FileParts

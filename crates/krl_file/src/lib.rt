@@ -7,12 +7,11 @@ ghost use Rattle.std.specs.Prelude.{◌≡◌, true, ◌+◌, ◌*◌, ◌/◌, 
 ghost use Rattle.query_item.specs.Items.{item_size};
 ghost use Rattle.item_lists.specs.Written.{laid_over, written};
 ghost use Rattle.krl_file.specs.File.{record_size, most_file, byte_at, u16_at, has_mark, has_version, pool_length, ours_count, theirs_count, whole_size, well_formed};
-ghost use Rattle.krl_file.specs.File.{pool_of, record_at, records_from, ours_of, theirs_of, file_answer_of, parts_of, file_room_answer, file_answer};
+ghost use Rattle.krl_file.specs.File.{pool_of, record_at, records_from, ours_of, theirs_of, parts_of, file_room_answer, file_answer};
 
-use item_check::{Refusal, refusal_of};
+use item_check::{Reason, Refusal, refuse};
 use item_lists::passes_room;
 use item_words::{make_item, write_item};
-use key_order::wide_u32;
 use query_item::pooled::key_bytes;
 use query_item::{ItemWords, KeyAt};
 
@@ -24,13 +23,6 @@ pub struct FileParts {
     pub theirs: usize,
 }
 
-// What reading a file answers.
-#[derive(Clone, Copy)]
-pub enum FileAnswer {
-    Read(FileParts),
-    Refused(Refusal),
-}
-
 // The mark and four u16.
 pub const HEAD_SIZE: usize = 11;
 
@@ -39,15 +31,15 @@ pub const RECORD_SIZE: usize = 8;
 pub const MOST_FILE: usize = 65536;
 
 // The items of a file, written to the front of two lists, with the pool's length and their counts (01 m7.1, m7.2).
-pub fn read_file(file: &[u8], ours: &mut [u32], theirs: &mut [u32]) -> FileAnswer
-    ensures result_value { file_answer_of result ≡ file_answer file.now ours.old theirs.old }
+pub fn read_file(file: &[u8], ours: &mut [u32], theirs: &mut [u32]) -> Result<FileParts, Refusal>
+    ensures result_value { result ≡ file_answer file.now ours.old theirs.old }
     ensures ours_after { ours.new ≡ written (file_answer file.now ours.old theirs.old) (ours_of file.now) ours.old }
     ensures theirs_after { theirs.new ≡ written (file_answer file.now ours.old theirs.old) (theirs_of file.now) theirs.old }
 {
     if is_well_formed(file) {
         return read_lists(file, ours, theirs);
     }
-    FileAnswer::Refused(refusal_of(10, 0, 0))
+    refuse(Reason::BadFile, 0, 0)
 }
 
 // The pool of a file: the part from HEAD_SIZE on, of the pool's length; of a file that ends before it does, what is there (01 m7.1).
@@ -64,20 +56,20 @@ pub fn pool_of(file: &[u8]) -> &[u8]
 }
 
 // The room of the two lists, known before anything is written; then the lists.
-fn read_lists(file: &[u8], ours: &mut [u32], theirs: &mut [u32]) -> FileAnswer
+fn read_lists(file: &[u8], ours: &mut [u32], theirs: &mut [u32]) -> Result<FileParts, Refusal>
     requires { well_formed file.now ≡ true }
-    ensures result_value { file_answer_of result ≡ file_room_answer file.now ours.old theirs.old }
+    ensures result_value { result ≡ file_room_answer file.now ours.old theirs.old }
     ensures ours_after { ours.new ≡ written (file_room_answer file.now ours.old theirs.old) (ours_of file.now) ours.old }
     ensures theirs_after { theirs.new ≡ written (file_room_answer file.now ours.old theirs.old) (theirs_of file.now) theirs.old }
 {
     let p = parts_of(file);
     if passes_room(p.ours, ours) | passes_room(p.theirs, theirs) {
-        return FileAnswer::Refused(refusal_of(6, 0, 0));
+        return refuse(Reason::NoRoom, 0, 0);
     }
     let at = HEAD_SIZE + p.pool;
     write_records(file, at, p.ours, ours);
     write_records(file, at + RECORD_SIZE * p.ours, p.theirs, theirs);
-    FileAnswer::Read(p)
+    Ok(p)
 }
 
 fn is_well_formed(file: &[u8]) -> bool
@@ -89,11 +81,11 @@ fn is_well_formed(file: &[u8]) -> bool
         & (file.len() == whole_size(file))
 }
 
-// 4B 52 4C: KRL.
+// 4B 52 4C.
 fn has_mark(file: &[u8]) -> bool
     ensures { result ≡ has_mark file.now }
 {
-    (byte_at(file, 0) == 75) & (byte_at(file, 1) == 82) & (byte_at(file, 2) == 76)
+    file.starts_with(b"KRL")
 }
 
 fn has_version(file: &[u8]) -> bool
@@ -140,21 +132,18 @@ fn theirs_count(file: &[u8]) -> u32
     u16_at(file, 9)
 }
 
-// Writes n records, the first of which starts at a byte, to the front of a list. Each turn writes one.
+// Writes n records, the first of which starts at a byte, to the front of a list.
 fn write_records(file: &[u8], from: usize, n: usize, out: &mut [u32])
     requires { (from + record_size * n ≤ most_file) × (n ≤ length out.old / item_size) }
     ensures { out.new ≡ laid_over out.old (records_from file.now from n) }
 {
-    let mut at = from;
-    let mut i: usize = 0;
-    while i < n {
-        write_item(out, i, record_at(file, at));
-        at += RECORD_SIZE;
-        i += 1;
+    for i in 0..n {
+        write_item(out, i, record_at(file, from + RECORD_SIZE * i));
     }
 }
 
 // The item of a record.
+#[tactic(auto, unfolding(crate::specs::File::record_at))]
 fn record_at(file: &[u8], at: usize) -> ItemWords
     requires { at + record_size ≤ most_file }
     ensures { result ≡ record_at file.now at }
@@ -171,6 +160,7 @@ fn record_at(file: &[u8], at: usize) -> ItemWords
 }
 
 // A big-endian u16.
+#[tactic(auto, unfolding(crate::specs::File::u16_at))]
 fn u16_at(file: &[u8], i: usize) -> u32
     requires { i < most_file }
     ensures { result ≡ u16_at file.now i }
@@ -183,8 +173,8 @@ fn u16_at(file: &[u8], i: usize) -> u32
 fn byte_at(file: &[u8], i: usize) -> u32
     ensures { (result ≡ byte_at file.now i) × (result < 256) }
 {
-    if i < file.len() {
-        return wide_u32(file[i]);
+    match file.get(i) {
+        Some(byte) => u32::from(*byte),
+        None => 0,
     }
-    0
 }

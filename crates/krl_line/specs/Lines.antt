@@ -1,5 +1,5 @@
 -- What a line ends in, and the line of a refusal. Definitions only. Assumes nothing.
-use Rattle.std.specs.Prelude.{ℕ, ◌≡◌, true, cond, ◌||◌, List, [], ◌∷◌, ◌++◌, length, eqb}
+use Rattle.std.specs.Prelude.{ℕ, ◌≡◌, cond, ◌||◌, List, [], ◌∷◌, ◌++◌, length, eqb}
 use Rattle.lent_text.specs.Text.{spaced_number, stored}
 use Rattle.item_check.specs.declared.Refusal.{Refusal}
 
@@ -39,4 +39,4 @@ refusal_line r = refused_word ++ (spaced_number r.number ++ (place_text r.number
 
 -- how many bytes the text has, and the lent bytes with it stored in them as far as they go
 abbrev pub PutFront : List ℕ → List ℕ → ℕ → List ℕ → Type 0
-PutFront out text n out' = (n ≡ length text) × (out' ≡ stored true out 0 text)
+PutFront out text n out' = (n ≡ length text) × (out' ≡ stored out 0 text)

@@ -1,7 +1,6 @@
 -- The lines of a list and of the listing, by index. Assumes nothing.
 use Prim.Native.Nat.{ℕ, zero, suc, ◌+◌, ◌-◌, ◌≤◌, ◌<◌}
 use mathlib.Core.Path.{◌≡◌, refl, sym, ap, ◌∙◌}
-use mathlib.Core.Bool.{Bool}
 use mathlib.Core.List.{List, [], ◌∷◌, ◌++◌}
 use native.Mathlib.Omega.{arith}
 use lib.ListN.{length, get_or, get_or-append, get_or-eq_default}
@@ -44,14 +43,14 @@ module _ (pool title ws : List ℕ) (n : ℕ) where
       let q : 0 + i ≡ suc i - 1 = omega arith in
       item_line_at pool ws 0 n i (omega arith) ∙ ap (λ (j : ℕ). item_line pool (query_item (item_at ws j))) q
 
-  pub item_stored : (i : ℕ) → (i ≡ 0 → ⊥) → i ≤ n → (w : Bool) (l o : List ℕ) (r : ℕ) (it : ItemWords) (q : QueryItem) → it ≡ item_at ws (i - 1) → q ≡ query_item it
-      → (r ≡ length (item_line pool q)) × (o ≡ stored w l 0 (item_line pool q))
-      → (r ≡ length (get_or (list_lines pool title (items_from ws 0 n)) i [])) × (o ≡ stored w l 0 (get_or (list_lines pool title (items_from ws 0 n)) i []))
-  item_stored i h k w l o r it q is-it is-q p =
+  pub item_stored : (i : ℕ) → (i ≡ 0 → ⊥) → i ≤ n → (l o : List ℕ) (r : ℕ) (it : ItemWords) (q : QueryItem) → it ≡ item_at ws (i - 1) → q ≡ query_item it
+      → (r ≡ length (item_line pool q)) × (o ≡ stored l 0 (item_line pool q))
+      → (r ≡ length (get_or (list_lines pool title (items_from ws 0 n)) i [])) × (o ≡ stored l 0 (get_or (list_lines pool title (items_from ws 0 n)) i []))
+  item_stored i h k l o r it q is-it is-q p =
       let e : item_line pool q ≡ get_or (list_lines pool title (items_from ws 0 n)) i [] =
       ap (λ (x : QueryItem). item_line pool x) (is-q ∙ ap query_item is-it) ∙ sym (line_item i h k)
       in
-      (p.0 ∙ ap length e, p.1 ∙ ap (λ (x : List ℕ). stored w l 0 x) e)
+      (p.0 ∙ ap length e, p.1 ∙ ap (λ (x : List ℕ). stored l 0 x) e)
 
   -- of a list with more lines behind it, the lines up to its count are its own, and the others follow
 

@@ -71,14 +71,15 @@ fn put_title(out: &mut [u8], title: &[u8], count: usize) -> usize
     requires { length title.now ≤ 30 }
     ensures { PutFront out.old (title_line title.now count) result out.new }
 {
-    let a = put_text(out, 0, title, true);
-    let b = a + put_spaced(out, a, count as u64, true);
-    put(out, b, b'\n', true);
+    let a = put_text(out, 0, title);
+    let b = a + put_spaced(out, a, count as u64);
+    put(out, b, b'\n');
     b + 1
 }
 
 // ---- items
 
+#[tactic(auto, unfolding(crate::specs::Listing::item_line))]
 fn put_item(out: &mut [u8], pool: &[u8], item: QueryItem) -> usize
     ensures { PutFront out.old (item_line pool.now item) result out.new }
 {
@@ -98,13 +99,15 @@ fn put_item(out: &mut [u8], pool: &[u8], item: QueryItem) -> usize
     }
 }
 
+// The names of items are literals: a type for names of at most 30 bytes would say that once more at each of them.
+
 // A name with no key behind it.
 fn put_bare(out: &mut [u8], name: &[u8]) -> usize
     requires { length name.now ≤ 30 }
     ensures { PutFront out.old (bare_line name.now) result out.new }
 {
-    let a = put_text(out, 0, name, true);
-    put(out, a, b'\n', true);
+    let a = put_text(out, 0, name);
+    put(out, a, b'\n');
     a + 1
 }
 
@@ -113,9 +116,9 @@ fn put_one(out: &mut [u8], pool: &[u8], name: &[u8], key: KeyAt) -> usize
     requires { length name.now ≤ 30 }
     ensures { PutFront out.old (key_line pool.now name.now key) result out.new }
 {
-    let a = put_text(out, 0, name, true);
-    let b = a + put_key(out, a, pool, key, true);
-    put(out, b, b'\n', true);
+    let a = put_text(out, 0, name);
+    let b = a + put_key(out, a, pool, key);
+    put(out, b, b'\n');
     b + 1
 }
 
@@ -124,9 +127,9 @@ fn put_two(out: &mut [u8], pool: &[u8], name: &[u8], start: KeyAt, end: KeyAt) -
     requires { length name.now ≤ 30 }
     ensures { PutFront out.old (keys_line pool.now name.now start end) result out.new }
 {
-    let a = put_text(out, 0, name, true);
-    let b = a + put_key(out, a, pool, start, true);
-    let c = b + put_key(out, b, pool, end, true);
-    put(out, c, b'\n', true);
+    let a = put_text(out, 0, name);
+    let b = a + put_key(out, a, pool, start);
+    let c = b + put_key(out, b, pool, end);
+    put(out, c, b'\n');
     c + 1
 }

@@ -1,5 +1,6 @@
 -- What is known of a file that the program answers with a listing, and what the call on two lists answers with the program's room.
 -- Assumes nothing.
+use Rattle.std.specs.Prelude.{Ok, Err}
 use Prim.Native.Nat.{ℕ, ◌≤◌}
 use mathlib.Core.Path.{◌≡◌, refl, sym}
 use mathlib.Core.Bool.{Bool, true, false, cond, ◌||◌}
@@ -7,9 +8,8 @@ use mathlib.Core.List.{List}
 use native.Mathlib.Omega.{arith}
 use lib.Dec.{ltb}
 use borrow.Author.Tests.{ltb-false}
-use Rattle.key_order.proofs.Impossible.{impossible}
 use Rattle.item_check.specs.declared.Refusal.{Refusal}
-use Rattle.item_check.specs.Checks.{answered, refused, refused_as, accepted, and_then, pool_verdict, list_verdict}
+use Rattle.item_check.specs.Checks.{refused, accepted, and_then, pool_verdict, list_verdict}
 use Rattle.item_check.proofs.Laws.{accepts, answers, both_false, accepted_list}
 use Rattle.item_lists.specs.Lists.{Accepted}
 use Rattle.item_lists.proofs.Accepted.{accepted_side}
@@ -24,7 +24,7 @@ use Rattle.krl_program.specs.Decided.{Rooms}
 -- ---- a listing
 
 room_left : (t : Bool) → cond t (refused 6 0 0) accepted ≡ accepted → t ≡ false
-room_left true e = impossible cc
+room_left true e = cc
 room_left false e = refl
 
 -- the file is well formed, its lists are accepted, and each of the three has at most 2,048 items
@@ -36,16 +36,16 @@ pub record Answered (file : List ℕ) (c : ManyCounts) : Type 0 where
   pub few_ours : c.ours ≤ list_room
   pub few_theirs : c.theirs ≤ list_room
 
-pub answered→lists : (file : List ℕ) (c : ManyCounts) → program_answer file ≡ answered c → Answered file c
+pub answered→lists : (file : List ℕ) (c : ManyCounts) → program_answer file ≡ Ok c → Answered file c
 unfolding program_answer
 answered→lists file c e =
     let pool = pool_of file in
     let A = our_words file in
     let B = their_words file in
     let n = counts_of pool A B in
-    let formed = answers (file_verdict file) (and_then (lists_verdict pool A B) (and_then (program_room_verdict n) (answered n))) c e in
-    let checked = answers (lists_verdict pool A B) (and_then (program_room_verdict n) (answered n)) c formed.1 in
-    let fitted = answers (program_room_verdict n) (answered n) c checked.1 in
+    let formed = answers (file_verdict file) (and_then (lists_verdict pool A B) (and_then (program_room_verdict n) (Ok n))) c e in
+    let checked = answers (lists_verdict pool A B) (and_then (program_room_verdict n) (Ok n)) c formed.1 in
+    let fitted = answers (program_room_verdict n) (Ok n) c checked.1 in
     let same : n ≡ c = cc fitted.1 in
     let lists = (accepts (pool_verdict pool) (both_verdict pool A B)).0 checked.0 in
     let both = (accepts (list_verdict pool A 0) (list_verdict pool B 1)).0 lists.1 in
@@ -64,18 +64,18 @@ answered→lists file c e =
 
 module _ (file ours theirs shared_out ours_out theirs_out : List ℕ) (R : Rooms ours theirs shared_out ours_out theirs_out) where
   -- what reading the file is refused for is what the program is refused for
-  pub file_refused : (r : Refusal) → file_answer file ours theirs ≡ refused_as r → program_answer file ≡ refused_as r
+  pub file_refused : (r : Refusal) → file_answer file ours theirs ≡ Err r → program_answer file ≡ Err r
   unfolding program_answer
   file_refused r e = go (well_formed file) refl
     where
-      go : (t : Bool) → well_formed file ≡ t → program_answer file ≡ refused_as r
+      go : (t : Bool) → well_formed file ≡ t → program_answer file ≡ Err r
       go true w =
           let room = room_enough file ours theirs w (rw R.our_records (omega arith)) (rw R.their_records (omega arith)) in
-          impossible cc
+          cc
       go false w = rw w (cc (rw w at e))
 
   -- and what the call on the file's lists answers is what the program answers
-  pub many_is_program : (p : FileParts) → file_answer file ours theirs ≡ answered p
+  pub many_is_program : (p : FileParts) → file_answer file ours theirs ≡ Ok p
       → many_answer (pool_of file) (our_words file) (their_words file) shared_out ours_out theirs_out ≡ program_answer file
   unfolding program_answer
   many_is_program p e = rw ((answered→read file ours theirs p e).formed, R.shared, R.ours_only, R.theirs_only)

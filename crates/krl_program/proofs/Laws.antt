@@ -1,26 +1,23 @@
 -- The steps of the program: what deciding a file leaves in the lists, and that every line of the answer is there, no longer than the longest.
 -- Assumes nothing.
+use Rattle.std.specs.Prelude.{Ok, Err, Result}
 use Prim.Native.Nat.{ℕ, zero, suc, ◌+◌, ◌*◌, ◌≤◌}
 use mathlib.Core.Path.{◌≡◌, refl, sym, ap, ◌∙◌}
 use mathlib.Core.List.{List, [], ◌∷◌}
 use native.Mathlib.Omega.{arith}
 use lib.ListN.{length, get_or, take, drop}
 use lib.Seq.{take-append_seam}
-use Rattle.key_order.proofs.Impossible.{impossible}
 use Rattle.intervals.proofs.Laws.{All}
 use Rattle.query_item.specs.declared.ItemWords.{ItemWords}
 use Rattle.query_item.specs.Items.{item_size, flat_all}
 use Rattle.item_check.specs.declared.Refusal.{Refusal}
-use Rattle.item_check.specs.Checks.{answered, refused_as}
 use Rattle.item_check.proofs.Laws.{AllSound}
 use Rattle.item_lists.specs.Lists.{Accepted}
 use Rattle.item_lists.specs.Written.{written}
 use Rattle.item_lists.proofs.Accepted.{list_of}
 use Rattle.item_lists.proofs.Read.{items_flat, items_laid, front_laid}
 use Rattle.intersect_many.specs.declared.ManyCounts.{ManyCounts}
-use Rattle.intersect_many.specs.declared.ManyAnswer.{ManyAnswer}
-use Rattle.intersect_many.specs.declared.ManyAnswer.TheVariants.{Counts, Refused}
-use Rattle.intersect_many.specs.Lists.{shared_items, only_items, many_of, many_answer, IntersectMany}
+use Rattle.intersect_many.specs.Lists.{shared_items, only_items, many_answer, IntersectMany}
 use Rattle.intersect_many.proofs.Demands.{shared_accepted, without_accepted}
 use Rattle.krl_file.specs.declared.FileParts.{FileParts}
 use Rattle.krl_file.specs.File.{pool_of, ours_of, theirs_of, file_answer}
@@ -37,7 +34,7 @@ use Rattle.krl_program.proofs.Answered.{answered→lists, file_refused, many_is_
 -- ---- the file's lists
 
 -- of a file that is read to two lists: their records fit, and are the file's two lists
-module _ (file ours theirs : List ℕ) (p : FileParts) (e : file_answer file ours theirs ≡ answered p) where
+module _ (file ours theirs : List ℕ) (p : FileParts) (e : file_answer file ours theirs ≡ Ok p) where
   read : ReadFile file ours theirs p
   read = answered→read file ours theirs p e
 
@@ -57,22 +54,22 @@ module _ (file ours theirs : List ℕ) (p : FileParts) (e : file_answer file our
 
 module _ (file ours theirs shared_out ours_out theirs_out : List ℕ) (R : Rooms ours theirs shared_out ours_out theirs_out) where
   -- a file that is refused has no lists
-  pub decided_refused : (r : Refusal) → file_answer file ours theirs ≡ refused_as r → Decided file shared_out ours_out theirs_out (Refused r)
+  pub decided_refused : (r : Refusal) → file_answer file ours theirs ≡ Err r → Decided file shared_out ours_out theirs_out (Err r)
   decided_refused r e = record {
     answer = sym (file_refused file ours theirs shared_out ours_out theirs_out R r e);
-    lists = λ c h. impossible cc;
+    lists = λ c h. cc;
   }
 
   -- a file that is read to two lists has the lists of these
-  pub decided_read : (p : FileParts) → file_answer file ours theirs ≡ answered p
+  pub decided_read : (p : FileParts) → file_answer file ours theirs ≡ Ok p
       → (pool A B : List ℕ) → pool ≡ pool_of file → A ≡ our_words file → B ≡ their_words file
-      → (r : ManyAnswer) (shared_out' ours_out' theirs_out' : List ℕ)
-      → IntersectMany pool A B shared_out ours_out theirs_out (many_of r) shared_out' ours_out' theirs_out' → Decided file shared_out' ours_out' theirs_out' r
+      → (r : Result ManyCounts Refusal) (shared_out' ours_out' theirs_out' : List ℕ)
+      → IntersectMany pool A B shared_out ours_out theirs_out r shared_out' ours_out' theirs_out' → Decided file shared_out' ours_out' theirs_out' r
   decided_read p e pool A B is-pool is-A is-B r shared_out' ours_out' theirs_out' F =
-      let is : many_of r ≡ program_answer file = F.told ∙ rw (is-pool, is-A, is-B) (many_is_program file ours theirs shared_out ours_out theirs_out R p e) in
+      let is : r ≡ program_answer file = F.told ∙ rw (is-pool, is-A, is-B) (many_is_program file ours theirs shared_out ours_out theirs_out R p e) in
       record { answer = is; lists = λ c h. listed c (sym is ∙ h) (sym F.told ∙ h) }
     where
-      listed : (c : ManyCounts) → program_answer file ≡ answered c → many_answer pool A B shared_out ours_out theirs_out ≡ answered c
+      listed : (c : ManyCounts) → program_answer file ≡ Ok c → many_answer pool A B shared_out ours_out theirs_out ≡ Ok c
           → Listed file shared_out' ours_out' theirs_out' c
       listed c h k =
           let n = sym (answered→lists file c h).counts in
@@ -101,7 +98,7 @@ all_at (l ∷ ls) h zero = h.0
 all_at (l ∷ ls) h (suc i) = all_at ls h.1 i
 
 -- no line of a file's listing is longer than the longest
-listing_short : (file : List ℕ) (c : ManyCounts) → program_answer file ≡ answered c → All Short (file_lines file)
+listing_short : (file : List ℕ) (c : ManyCounts) → program_answer file ≡ Ok c → All Short (file_lines file)
 listing_short file c e =
     let v = answered→lists file c e in
     let pool = pool_of file in
@@ -122,17 +119,17 @@ put_given file line line' text i n room short put same is = record {
 }
 
 module _ (file shared_out ours_out theirs_out : List ℕ) where
-  lines_listed : (c : ManyCounts) → Decided file shared_out ours_out theirs_out (Counts c) → program_lines file ≡ file_lines file
+  lines_listed : (c : ManyCounts) → Decided file shared_out ours_out theirs_out (Ok c) → program_lines file ≡ file_lines file
   unfolding program_lines
   lines_listed c d = rw (← d.answer)
 
-  lines_refused : (r : Refusal) → Decided file shared_out ours_out theirs_out (Refused r) → program_lines file ≡ refusal_line r ∷ []
+  lines_refused : (r : Refusal) → Decided file shared_out ours_out theirs_out (Err r) → program_lines file ≡ refusal_line r ∷ []
   unfolding program_lines
   lines_refused r d = rw (← d.answer)
 
   -- there are as many lines as are asked for
-  pub lines_counted : (r : ManyAnswer) → Decided file shared_out ours_out theirs_out r → (lines_of r ≡ length (program_lines file)) × (lines_of r ≤ 3 + 3 * list_room)
-  lines_counted (Counts c) d =
+  pub lines_counted : (r : Result ManyCounts Refusal) → Decided file shared_out ours_out theirs_out r → (lines_of r ≡ length (program_lines file)) × (lines_of r ≤ 3 + 3 * list_room)
+  lines_counted (Ok c) d =
       let v = answered→lists file c (sym d.answer) in
       let n = v.counts in
       let pool = pool_of file in
@@ -148,10 +145,10 @@ module _ (file shared_out ours_out theirs_out : List ℕ) where
             )),
         omega (arith, v.few_shared, v.few_ours, v.few_theirs),
       )
-  lines_counted (Refused r) d = (rw (lines_refused r d), omega arith)
+  lines_counted (Err r) d = (rw (lines_refused r d), omega arith)
 
   -- a line of the listing
-  pub line_listed : (c : ManyCounts) (i : ℕ) (line line' : List ℕ) (n : ℕ) → Asked file shared_out ours_out theirs_out (Counts c) i line
+  pub line_listed : (c : ManyCounts) (i : ℕ) (line line' : List ℕ) (n : ℕ) → Asked file shared_out ours_out theirs_out (Ok c) i line
       → PutFront line (line_at (pool_of file) shared_out ours_out theirs_out c i) n line' → length line' ≡ length line → Given file i line' n
   unfolding line_at
   line_listed c i line line' n a put same =
@@ -162,7 +159,7 @@ module _ (file shared_out ours_out theirs_out : List ℕ) where
       (rw (is, lines_listed c a.decided) (all_at (file_lines file) (listing_short file c (sym a.decided.answer)) i)) put same is
 
   -- the one line of a refusal
-  pub line_refused : (r : Refusal) (i : ℕ) (line line' : List ℕ) (n : ℕ) → Asked file shared_out ours_out theirs_out (Refused r) i line
+  pub line_refused : (r : Refusal) (i : ℕ) (line line' : List ℕ) (n : ℕ) → Asked file shared_out ours_out theirs_out (Err r) i line
       → PutFront line (refusal_line r) n line' → length line' ≡ length line → Given file i line' n
   line_refused r i line line' n a put same =
       let text = refusal_line r in

@@ -1,25 +1,13 @@
 -- What stands in the program's lists between the decision and the last line. No promise of a public call cites this. It serves 01 m7.3, m7.5.
 -- Assumes nothing.
-use Rattle.std.specs.Prelude.{ℕ, ◌+◌, ◌*◌, ◌≤◌, ◌<◌, ◌≡◌, List, [], length, get_or, take}
+use Rattle.item_check.specs.declared.Refusal.{Refusal}
+use Rattle.std.specs.Prelude.{ℕ, ◌+◌, ◌*◌, ◌≤◌, ◌<◌, ◌≡◌, List, [], length, get_or, take, Ok, Err, Result}
 use Rattle.query_item.specs.Items.{item_size, items_from}
-use Rattle.item_check.specs.Checks.{answered}
 use Rattle.intersect_many.specs.declared.ManyCounts.{ManyCounts}
-use Rattle.intersect_many.specs.declared.ManyAnswer.{ManyAnswer}
-use Rattle.intersect_many.specs.declared.ManyAnswer.TheVariants.{Counts, Refused}
-use Rattle.intersect_many.specs.Lists.{shared_items, only_items, many_of}
+use Rattle.intersect_many.specs.Lists.{shared_items, only_items}
 use Rattle.krl_file.specs.File.{pool_of}
 use Rattle.krl_listing.specs.Listing.{most_line}
-use Rattle.krl_program.specs.declared.Input.{Input}
-use Rattle.krl_program.specs.declared.Input.TheVariants.{Bytes, Failed}
-use Rattle.krl_program.specs.declared.Output.{Output}
-use Rattle.krl_program.specs.declared.Output.TheVariants.{Lines}
-use Rattle.krl_program.specs.declared.Output.TheVariants as output
 use Rattle.krl_program.specs.Program.{our_words, their_words, list_room, program_answer, program_lines}
-
--- no more bytes were read than were lent
-abbrev pub Within : Input → List ℕ → Type 0
-Within (Bytes n) file = n ≤ length file
-Within (Failed e) file = Unit {0}
 
 -- the room that the program lends: for the records of the longest file, and for each of the three lists
 abbrev pub most_records : ℕ
@@ -39,25 +27,20 @@ pub record Listed (file shared_out ours_out theirs_out : List ℕ) (c : ManyCoun
   pub theirs_only : items_from theirs_out 0 c.theirs ≡ only_items (pool_of file) (their_words file) (our_words file)
 
 -- what a file is answered is known, and where it is no refusal, the lists are its lists
-pub record Decided (file shared_out ours_out theirs_out : List ℕ) (r : ManyAnswer) : Type 0 where
-  pub answer : many_of r ≡ program_answer file
-  pub lists : (c : ManyCounts) → many_of r ≡ answered c → Listed file shared_out ours_out theirs_out c
+pub record Decided (file shared_out ours_out theirs_out : List ℕ) (r : Result ManyCounts Refusal) : Type 0 where
+  pub answer : r ≡ program_answer file
+  pub lists : (c : ManyCounts) → r ≡ Ok c → Listed file shared_out ours_out theirs_out c
 
 -- how many lines an answer has
-abbrev pub lines_of : ManyAnswer → ℕ
-lines_of (Counts c) = 3 + c.shared + c.ours + c.theirs
-lines_of (Refused r) = 1
+abbrev pub lines_of : Result ManyCounts Refusal → ℕ
+lines_of (Ok c) = 3 + c.shared + c.ours + c.theirs
+lines_of (Err r) = 1
 
 -- the lines of a decided file can be asked for: there is such a line, and lent bytes for the longest
-pub record Asked (file shared_out ours_out theirs_out : List ℕ) (r : ManyAnswer) (i : ℕ) (line : List ℕ) : Type 0 where
+pub record Asked (file shared_out ours_out theirs_out : List ℕ) (r : Result ManyCounts Refusal) (i : ℕ) (line : List ℕ) : Type 0 where
   pub decided : Decided file shared_out ours_out theirs_out r
   pub there : i < length (program_lines file)
   pub room : most_line ≤ length line
-
--- writing that came to an end without a failure came to the last line
-abbrev pub AllWritten : Output → List ℕ → Type 0
-AllWritten (Lines n) file = n ≡ length (program_lines file)
-AllWritten (output.Failed e) file = Unit {0}
 
 -- the first n of the lent bytes are the line
 pub record Given (file : List ℕ) (i : ℕ) (line : List ℕ) (n : ℕ) : Type 0 where

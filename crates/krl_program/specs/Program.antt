@@ -1,7 +1,7 @@
 -- Module 7 of document 01: what the program writes of a file, from the file's bytes to the text. Definitions only. Assumes nothing.
-use Rattle.std.specs.Prelude.{ℕ, List, [], ◌∷◌, Bool, cond, ◌||◌, ltb}
+use Rattle.std.specs.Prelude.{ℕ, List, [], ◌∷◌, Bool, cond, ◌||◌, ltb, Ok, Err}
 use Rattle.query_item.specs.Items.{flat_all}
-use Rattle.item_check.specs.Checks.{Answer, answered, refused, refused_as, Verdict, accepted, and_then}
+use Rattle.item_check.specs.Checks.{Answer, refused, Verdict, accepted, and_then}
 use Rattle.intersect_many.specs.declared.ManyCounts.{ManyCounts}
 use Rattle.intersect_many.specs.Lists.{shared_items, only_items, lists_verdict, counts_of}
 use Rattle.krl_file.specs.File.{file_verdict, pool_of, ours_of, theirs_of}
@@ -33,7 +33,7 @@ program_answer file =
     and_then (file_verdict file)
     (and_then (lists_verdict (pool_of file) (our_words file) (their_words file))
     (and_then (program_room_verdict (counts_of (pool_of file) (our_words file) (their_words file)))
-    (answered (counts_of (pool_of file) (our_words file) (their_words file)))))
+    (Ok (counts_of (pool_of file) (our_words file) (their_words file)))))
 
 -- ---- what the program writes
 
@@ -46,8 +46,8 @@ file_lines file =
 
 -- 01 m7.3, m7.6: that, or the one line of a refusal
 abbrev pub answer_lines : List ℕ → Answer ManyCounts → List (List ℕ)
-answer_lines file (answered c) = file_lines file
-answer_lines file (refused_as r) = refusal_line r ∷ []
+answer_lines file (Ok c) = file_lines file
+answer_lines file (Err r) = refusal_line r ∷ []
 
 unfoldable pub program_lines : List ℕ → List (List ℕ)
 program_lines file = answer_lines file (program_answer file)

@@ -5,42 +5,29 @@
 // say what is read or written; that the i-th line is the i-th of `program_lines`, and that there are so many, is proved.
 #![tactic(auto)]
 
-ghost use Rattle.std.specs.Prelude.{◌≡◌, ◌+◌, ◌*◌, ◌≤◌, length, take};
+ghost use Rattle.std.specs.Prelude.{◌≡◌, ◌+◌, ◌*◌, ◌≤◌, IfOk, length, take};
 ghost use Rattle.query_item.specs.Items.{item_size};
 ghost use Rattle.krl_file.specs.File.{most_file};
 ghost use Rattle.krl_listing.specs.Listing.{most_line};
-ghost use Rattle.krl_program.specs.Program.{list_room};
-ghost use Rattle.krl_program.specs.Decided.{most_records, Within, Rooms, Decided, lines_of, Asked, Given, AllWritten};
+ghost use Rattle.krl_program.specs.Program.{list_room, program_lines};
+ghost use Rattle.krl_program.specs.Decided.{most_records, Rooms, Decided, lines_of, Asked, Given};
 
-use intersect_many::{ManyAnswer, intersect_many_ordered};
+use intersect_many::{ManyCounts, intersect_many_ordered};
+use item_check::Refusal;
 use item_words::ITEM_SIZE;
-use krl_file::{FileAnswer, pool_of, read_file};
+use krl_file::{pool_of, read_file};
 use krl_line::refusal_line;
 use krl_listing::{MAX_LINE, listing_line};
 use std::io;
 use std::io::Read;
-
-// What reading came to: how many bytes, to the end of the input or of the lent bytes.
-#[derive(Clone, Copy)]
-enum Input {
-    Bytes(usize),
-    Failed(io::Error),
-}
-
-// What writing came to: how many lines, which are all.
-#[derive(Clone, Copy)]
-enum Output {
-    Lines(usize),
-    Failed(io::Error),
-}
 
 // inner: reads a KRL file to the end of the input, and writes its listing or refusal to standard output. Where reading or writing fails, one
 // line on standard error says so, and nothing more is written.
 pub fn run<R: Read>(rt: &(impl Print + Eprint), input: &mut R) {
     let mut file = file_room();
     match read_all(input, &mut file) {
-        Input::Failed(error) => tell(rt, "input", error),
-        Input::Bytes(n) => write_answer(rt, &file[..n]),
+        Ok(n) => write_answer(rt, &file[..n]),
+        Err(error) => tell(rt, "input", error),
     }
 }
 
@@ -56,37 +43,38 @@ fn file_room() -> [u8; 65537]
     [0; 65537]
 }
 
-// Reads until the input ends or the lent bytes are full. What comes in parts is waited for; a read that fails is not the end.
-fn read_all<R: Read>(input: &mut R, file: &mut [u8]) -> Input
-    ensures { Within result file.new }
+// Reads until the input ends or the lent bytes are full, and answers how many bytes there are. What comes in parts is waited for; a read that
+// fails is not the end.
+fn read_all<R: Read>(input: &mut R, file: &mut [u8]) -> io::Result<usize>
+    ensures { IfOk result (λ n. n ≤ length file.new) }
 {
     let mut done: usize = 0;
     while done < file.len() {
-        match input.read(&mut file[done..]) {
-            Ok(0) => return Input::Bytes(done),
-            Ok(more) => done += more,
-            Err(error) => return Input::Failed(error),
+        match input.read(&mut file[done..])? {
+            0 => break,
+            more => done += more,
         }
     }
-    Input::Bytes(done)
+    Ok(done)
 }
 
 // The file's lists and the three lists have their places here, and go no further.
 fn write_answer(rt: &(impl Print + Eprint), file: &[u8]) {
-    let mut our_room = records_room();
-    let mut their_room = records_room();
-    let mut shared_out_room = list_room();
-    let mut ours_out_room = list_room();
-    let mut theirs_out_room = list_room();
-    let ours: &mut [u32] = &mut our_room;
-    let theirs: &mut [u32] = &mut their_room;
-    let shared_out: &mut [u32] = &mut shared_out_room;
-    let ours_out: &mut [u32] = &mut ours_out_room;
-    let theirs_out: &mut [u32] = &mut theirs_out_room;
-    let answer = decide(file, ours, theirs, shared_out, ours_out, theirs_out);
-    match write_lines(rt, file, shared_out, ours_out, theirs_out, answer) {
-        Output::Failed(error) => tell(rt, "output", error),
-        Output::Lines(_) => {}
+    let mut ours = records_room();
+    let mut theirs = records_room();
+    let mut shared_out = list_room();
+    let mut ours_out = list_room();
+    let mut theirs_out = list_room();
+    let answer = decide(
+        file,
+        &mut ours,
+        &mut theirs,
+        &mut shared_out,
+        &mut ours_out,
+        &mut theirs_out,
+    );
+    if let Err(error) = write_lines(rt, file, &shared_out, &ours_out, &theirs_out, answer) {
+        tell(rt, "output", error);
     }
 }
 
@@ -116,21 +104,19 @@ fn decide(
     shared_out: &mut [u32],
     ours_out: &mut [u32],
     theirs_out: &mut [u32],
-) -> ManyAnswer
+) -> Result<ManyCounts, Refusal>
     requires { Rooms ours.old theirs.old shared_out.old ours_out.old theirs_out.old }
     ensures { Decided file.now shared_out.new ours_out.new theirs_out.new result }
 {
-    match read_file(file, ours, theirs) {
-        FileAnswer::Read(parts) => intersect_many_ordered(
-            pool_of(file),
-            front(ours, parts.ours),
-            front(theirs, parts.theirs),
-            shared_out,
-            ours_out,
-            theirs_out,
-        ),
-        FileAnswer::Refused(refusal) => ManyAnswer::Refused(refusal),
-    }
+    let parts = read_file(file, ours, theirs)?;
+    intersect_many_ordered(
+        pool_of(file),
+        front(ours, parts.ours),
+        front(theirs, parts.theirs),
+        shared_out,
+        ours_out,
+        theirs_out,
+    )
 }
 
 // The words of the first items of a list.
@@ -142,39 +128,35 @@ fn front(words: &[u32], count: usize) -> &[u32]
     &words[..end]
 }
 
-// Asks for line after line of an answer and writes it, to the last one or to one that cannot be written.
+// Asks for line after line of an answer and writes it, to the last one or to one that cannot be written, and answers how many there are.
 fn write_lines(
     rt: &impl Print,
     file: &[u8],
     shared_out: &[u32],
     ours_out: &[u32],
     theirs_out: &[u32],
-    answer: ManyAnswer,
-) -> Output
+    answer: Result<ManyCounts, Refusal>,
+) -> io::Result<usize>
     requires { Decided file.now shared_out.now ours_out.now theirs_out.now answer }
-    ensures { AllWritten result file.now }
+    ensures { IfOk result (λ n. n ≡ length (program_lines file.now)) }
 {
     let mut room = line_room();
     let line: &mut [u8] = &mut room;
     let lines = count_lines(answer);
-    let mut i: usize = 0;
-    while i < lines {
+    for i in 0..lines {
         let n = line_of(file, shared_out, ours_out, theirs_out, answer, i, line);
-        match rt.write_all(&line[..n]) {
-            Ok(()) => i += 1,
-            Err(error) => return Output::Failed(error),
-        }
+        rt.write_all(&line[..n])?;
     }
-    Output::Lines(i)
+    Ok(lines)
 }
 
-fn count_lines(answer: ManyAnswer) -> usize
+fn count_lines(answer: Result<ManyCounts, Refusal>) -> usize
     requires { lines_of answer ≤ 3 + 3 * list_room }
     ensures { result ≡ lines_of answer }
 {
     match answer {
-        ManyAnswer::Counts(counts) => 3 + counts.shared + counts.ours + counts.theirs,
-        ManyAnswer::Refused(_) => 1,
+        Ok(counts) => 3 + counts.shared + counts.ours + counts.theirs,
+        Err(_) => 1,
     }
 }
 
@@ -184,7 +166,7 @@ fn line_of(
     shared_out: &[u32],
     ours_out: &[u32],
     theirs_out: &[u32],
-    answer: ManyAnswer,
+    answer: Result<ManyCounts, Refusal>,
     i: usize,
     line: &mut [u8],
 ) -> usize
@@ -192,7 +174,7 @@ fn line_of(
     ensures { Given file.now i line.new result }
 {
     match answer {
-        ManyAnswer::Counts(counts) => {
+        Ok(counts) => {
             listing_line(
                 line,
                 pool_of(file),
@@ -203,6 +185,6 @@ fn line_of(
                 i,
             )
         }
-        ManyAnswer::Refused(refusal) => refusal_line(line, refusal),
+        Err(refusal) => refusal_line(line, refusal),
     }
 }

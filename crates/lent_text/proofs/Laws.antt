@@ -1,14 +1,13 @@
 -- Decimal digits, and bytes stored one after another. Assumes nothing.
-use Prim.Native.Nat.{ℕ, zero, suc, ◌+◌, ◌/◌, ◌%◌, ◌^◌, ◌≤◌, ◌<◌}
+use Prim.Native.Nat.{ℕ, zero, suc, ◌+◌, ◌/◌, ◌%◌, ◌^◌, ◌-◌, ◌≤◌, ◌<◌, min}
 use mathlib.Core.Path.{◌≡◌, refl, sym, ap, ◌∙◌}
-use mathlib.Core.Bool.{Bool, true, false}
 use mathlib.Core.List.{List, [], ◌∷◌, ◌++◌}
 use native.Mathlib.Decide.{dec_lt}
 use native.Mathlib.Nat.{pow-suc}
-use native.Mathlib.Numerals.{add-one}
 use native.Mathlib.Omega.{arith}
-use lib.ListN.{length, get_or, drop, set, length-append, drop_of_length-le}
-use lib.Seq.{sets, sets-eq, set_out, drop-cons}
+use lib.ListN.{length, take, drop, set, length-append, length-set}
+use lib.Seq.{sets, sets-eq, set_out}
+use Rattle.std.proofs.lemmas.List.{append_assoc, take_all, length-take, drop-drop}
 use borrow.Author.Tests.{lt-ltb, le-ltb}
 use Rattle.lent_text.specs.Text.{digits, decimal, stored}
 
@@ -65,71 +64,79 @@ sets_past : (xs l : List ℕ) (at : ℕ) → length l ≤ at → sets l at xs �
 sets_past [] l at h = refl
 sets_past (x ∷ xs) l at h = rw (set_out l at x h) (sets_past xs l (suc at) (omega arith))
 
-pub stored_append : (w : Bool) (l : List ℕ) (at : ℕ) (xs ys : List ℕ) → stored w (stored w l at xs) (at + length xs) ys ≡ stored w l at (xs ++ ys)
-unfolding stored
-stored_append true l at xs ys = sets_append xs ys l at
-stored_append false l at xs ys = refl
+-- what has no room is left out
+sets_short : (xs l : List ℕ) (at n : ℕ) → length l ≤ at + n → sets l at (take n xs) ≡ sets l at xs
+sets_short [] l at n h = rw (take_all {A = ℕ} n [] (omega arith))
+sets_short (x ∷ xs) l at zero h = sym (sets_past (x ∷ xs) l at (omega arith))
+sets_short (x ∷ xs) l at (suc n) h = sets_short xs (set l at x) (suc at) n (omega (arith, length-set {A = ℕ}))
 
-pub stored_none : (w : Bool) (l : List ℕ) (at : ℕ) → stored w l at [] ≡ l
+pub stored_append : (l : List ℕ) (at : ℕ) (xs ys : List ℕ) → stored (stored l at xs) (at + length xs) ys ≡ stored l at (xs ++ ys)
 unfolding stored
-stored_none true l at = refl
-stored_none false l at = refl
+stored_append l at xs ys = sets_append xs ys l at
+
+pub stored_none : (l : List ℕ) (at : ℕ) → stored l at [] ≡ l
+unfolding stored
+stored_none l at = refl
 
 -- nothing is stored past the end
-pub stored_past : (w : Bool) (l : List ℕ) (at : ℕ) (xs : List ℕ) → length l ≤ at → stored w l at xs ≡ l
+pub stored_past : (l : List ℕ) (at : ℕ) (xs : List ℕ) → length l ≤ at → stored l at xs ≡ l
 unfolding stored
-stored_past true l at xs h = sets_past xs l at h
-stored_past false l at xs h = refl
+stored_past l at xs h = sets_past xs l at h
+
+-- nor what has no room
+pub stored_short : (l : List ℕ) (at x : ℕ) (xs : List ℕ) → length l ≤ at + 1 → stored l at (x ∷ []) ≡ stored l at (x ∷ xs)
+unfolding stored
+stored_short l at x xs h = sets_short (x ∷ xs) l at 1 h
+
+-- a place that is capped is past the end, as the one that it stands for
+pub stored_capped : (l : List ℕ) (at most j : ℕ) (xs : List ℕ) → j ≡ min at most → length l ≤ most → stored l j xs ≡ stored l at xs
+stored_capped l at most j xs e h = elim (dec_lt most at) [
+  | yes p ↦ stored_past l j xs (omega arith) ∙ sym (stored_past l at xs (omega arith))
+  | no p ↦ let q : j ≡ at = omega arith in rw q
+]
+
+-- so much of a text as has room
+pub stored_part : (l xs : List ℕ) (at n : ℕ) → n ≡ min (length xs) (length l - at) → at ≤ length l → take at l ++ (take n xs ++ drop n (drop at l)) ≡ stored l at xs
+unfolding stored
+stored_part l xs at n e h =
+    let size : length (take n xs) ≡ n = omega (arith, length-take n xs) in
+    let laid : sets l at (take n xs) ≡ take at l ++ (take n xs ++ drop (at + n) l) = rw (size, append_assoc) at (sets-eq (take n xs) l at (omega arith)) in
+    (rw (drop-drop n at l) (sym laid)) ∙ fits (dec_lt (length l - at) (length xs))
+  where
+    fits : Dec (length l - at < length xs) → sets l at (take n xs) ≡ sets l at xs
+    fits (yes p) = sets_short xs l at n (omega arith)
+    fits (no p) = ap (sets l at) (take_all n xs (omega arith))
 
 -- texts one after another, of j, k, .. bytes
 
-pub stored_next : (w : Bool) (l m o : List ℕ) (at j k : ℕ) (xs ys : List ℕ) → m ≡ stored w l at xs → j ≡ length xs → o ≡ stored w m (at + j) ys → k ≡ length ys
-    → (j + k ≡ length (xs ++ ys)) × (o ≡ stored w l at (xs ++ ys))
-stored_next w l m o at j k xs ys is_m is-j is-o is-k =
-    (omega (arith, length-append xs ys), is-o ∙ rw (is_m, is-j) (stored_append w l at xs ys))
+pub stored_next : (l m o : List ℕ) (at j k : ℕ) (xs ys : List ℕ) → m ≡ stored l at xs → j ≡ length xs → o ≡ stored m (at + j) ys → k ≡ length ys
+    → (j + k ≡ length (xs ++ ys)) × (o ≡ stored l at (xs ++ ys))
+stored_next l m o at j k xs ys is_m is-j is-o is-k =
+    (omega (arith, length-append xs ys), is-o ∙ rw (is_m, is-j) (stored_append l at xs ys))
 
 -- the same from the front on
 
-pub stored_two : (w : Bool) (l m o : List ℕ) (j k : ℕ) (xs ys : List ℕ) → m ≡ stored w l 0 xs → j ≡ length xs → o ≡ stored w m j ys → k ≡ length ys
-    → (j + k ≡ length (xs ++ ys)) × (o ≡ stored w l 0 (xs ++ ys))
-stored_two w l m o j k xs ys is_m is-j is-o is-k =
+pub stored_two : (l m o : List ℕ) (j k : ℕ) (xs ys : List ℕ) → m ≡ stored l 0 xs → j ≡ length xs → o ≡ stored m j ys → k ≡ length ys
+    → (j + k ≡ length (xs ++ ys)) × (o ≡ stored l 0 (xs ++ ys))
+stored_two l m o j k xs ys is_m is-j is-o is-k =
     let z : 0 + j ≡ j = omega arith in
-    stored_next w l m o 0 j k xs ys is_m is-j (rw z is-o) is-k
+    stored_next l m o 0 j k xs ys is_m is-j (rw z is-o) is-k
 
-pub stored_three : (w : Bool) (l m o p : List ℕ) (j k n : ℕ) (xs ys zs : List ℕ) → m ≡ stored w l 0 xs → j ≡ length xs → o ≡ stored w m j ys → k ≡ length ys
-    → p ≡ stored w o (j + k) zs → n ≡ length zs → (j + k + n ≡ length (xs ++ (ys ++ zs))) × (p ≡ stored w l 0 (xs ++ (ys ++ zs)))
-stored_three w l m o p j k n xs ys zs is_m is-j is-o is-k is-p is-n =
-    let later = stored_next w m o p j k n ys zs is-o is-k is-p is-n in
-    let all = stored_two w l m p j (k + n) xs (ys ++ zs) is_m is-j later.1 later.0 in
+pub stored_three : (l m o p : List ℕ) (j k n : ℕ) (xs ys zs : List ℕ) → m ≡ stored l 0 xs → j ≡ length xs → o ≡ stored m j ys → k ≡ length ys
+    → p ≡ stored o (j + k) zs → n ≡ length zs → (j + k + n ≡ length (xs ++ (ys ++ zs))) × (p ≡ stored l 0 (xs ++ (ys ++ zs)))
+stored_three l m o p j k n xs ys zs is_m is-j is-o is-k is-p is-n =
+    let later = stored_next m o p j k n ys zs is-o is-k is-p is-n in
+    let all = stored_two l m p j (k + n) xs (ys ++ zs) is_m is-j later.1 later.0 in
     (omega (arith, all.0), all.1)
 
-pub stored_four : (w : Bool) (l m o p q : List ℕ) (j k n r : ℕ) (xs ys zs us : List ℕ) → m ≡ stored w l 0 xs → j ≡ length xs → o ≡ stored w m j ys → k ≡ length ys
-    → p ≡ stored w o (j + k) zs → n ≡ length zs → q ≡ stored w p (j + k + n) us → r ≡ length us
-    → (j + k + n + r ≡ length (xs ++ (ys ++ (zs ++ us)))) × (q ≡ stored w l 0 (xs ++ (ys ++ (zs ++ us))))
-stored_four w l m o p q j k n r xs ys zs us is_m is-j is-o is-k is-p is-n is-q is-r =
-    let later = stored_next w o p q (j + k) n r zs us is-p is-n is-q is-r in
-    let all = stored_three w l m o q j k (n + r) xs ys (zs ++ us) is_m is-j is-o is-k later.1 later.0 in
+pub stored_four : (l m o p q : List ℕ) (j k n r : ℕ) (xs ys zs us : List ℕ) → m ≡ stored l 0 xs → j ≡ length xs → o ≡ stored m j ys → k ≡ length ys
+    → p ≡ stored o (j + k) zs → n ≡ length zs → q ≡ stored p (j + k + n) us → r ≡ length us
+    → (j + k + n + r ≡ length (xs ++ (ys ++ (zs ++ us)))) × (q ≡ stored l 0 (xs ++ (ys ++ (zs ++ us))))
+stored_four l m o p q j k n r xs ys zs us is_m is-j is-o is-k is-p is-n is-q is-r =
+    let later = stored_next o p q (j + k) n r zs us is-p is-n is-q is-r in
+    let all = stored_three l m o q j k (n + r) xs ys (zs ++ us) is_m is-j is-o is-k later.1 later.0 in
     (omega (arith, all.0), all.1)
 
-pub stored_whole : (l text : List ℕ) → length text ≤ length l → stored true l 0 text ≡ text ++ drop (length text) l
+pub stored_whole : (l text : List ℕ) → length text ≤ length l → stored l 0 text ≡ text ++ drop (length text) l
 unfolding stored
 stored_whole l text h = let z : 0 + length text ≡ length text = omega arith in sets-eq text l 0 (omega arith) ∙ rw z
-
--- ---- a text byte by byte
-
-pub text_turn : (w : Bool) (l m text : List ℕ) (at i : ℕ) → i < length text → m ≡ stored w l (at + i) (get_or text i 0 ∷ [])
-    → stored w m (at + (i + 1)) (drop (i + 1) text) ≡ stored w l (at + i) (drop i text)
-text_turn w l m text at i h is =
-    let q : at + (i + 1) ≡ at + i + 1 = omega arith in
-    rw (is, q, add-one i, drop-cons text i 0 h) (stored_append w l (at + i) (get_or text i 0 ∷ []) (drop (suc i) text))
-
-pub text_done : (w : Bool) (l text : List ℕ) (at i : ℕ) → length text ≤ i → stored w l at (drop i text) ≡ l
-text_done w l text at i h = rw (drop_of_length-le text {i = i} h) (stored_none w l at)
-
-pub text_start : (w : Bool) (l text : List ℕ) (at : ℕ) → stored w l (at + 0) (drop 0 text) ≡ stored w l at text
-text_start w l text at = let q : at + 0 ≡ at = omega arith in rw q
-
--- counting leaves the bytes as they are
-pub stored_never : (l : List ℕ) (at : ℕ) (text : List ℕ) → stored false l at text ≡ l
-unfolding stored
-stored_never l at text = refl

@@ -1,5 +1,5 @@
 -- Decimal numbers as bytes, and bytes with a text stored in them. Definitions only. It serves 01 m6.13, m7.6, 02 §1.9. Assumes nothing.
-use Rattle.std.specs.Prelude.{ℕ, zero, suc, ◌+◌, ◌/◌, ◌%◌, Bool, cond, List, [], ◌∷◌, ◌++◌, length, drop, ltb}
+use Rattle.std.specs.Prelude.{ℕ, zero, suc, ◌+◌, ◌/◌, ◌%◌, cond, List, [], ◌∷◌, ◌++◌, length, drop, ltb}
 use Rattle.std.proofs.lemmas.List.Edits.{sets}
 
 -- a number in at most k decimal digits, the greatest first
@@ -19,6 +19,6 @@ spaced_number n = 32 ∷ decimal n
 abbrev pub laid : List ℕ → List ℕ → List ℕ
 laid out text = text ++ drop (length text) out
 
--- bytes with a text stored from an index on, what has no room left out; or as they were
-unfoldable pub stored : Bool → List ℕ → ℕ → List ℕ → List ℕ
-stored write out at text = cond write (sets out at text) out
+-- bytes with a text stored from an index on, what has no room left out
+unfoldable pub stored : List ℕ → ℕ → List ℕ → List ℕ
+stored out at text = sets out at text

@@ -1,4 +1,5 @@
 -- Both passes: from empty arrays to all keys of both lists, and from these to what the call leaves. Assumes nothing.
+use Rattle.std.specs.Prelude.{Ok, Err}
 use Prim.Native.Nat.{ℕ, ◌+◌, ◌*◌, ◌/◌, ◌≤◌, ◌<◌}
 use mathlib.Core.Path.{◌≡◌, refl, sym, ap, ◌∙◌}
 use mathlib.Core.Bool.{true≢false}
@@ -11,7 +12,7 @@ use borrow.Author.Tests.{lt-ltb, le-ltb}
 use Rattle.query_item.specs.declared.ItemWords.{ItemWords}
 use Rattle.query_item.specs.Items.{item_size, flat_all}
 use Rattle.item_check.specs.declared.Refusal.{Refusal}
-use Rattle.item_check.specs.Checks.{Verdict, accepted, answered, refused, refused_as, items_of}
+use Rattle.item_check.specs.Checks.{Verdict, accepted, refused, items_of}
 use Rattle.item_lists.proofs.Written.{sets_append}
 use Rattle.item_lists.proofs.Words.{length_items}
 use Rattle.item_check.proofs.Laws.{words_refused, words_answered}
@@ -170,8 +171,8 @@ module _ (pool fresh ours theirs : List ℕ) where
   kept = keys_kept pool ours theirs
 
   -- a refusal leaves what is lent as it was
-  collects_refused : {r : Refusal} → collect_answer pool fresh ours theirs ≡ refused_as r
-      → Collects pool fresh ours theirs (refused_as r) fresh ours theirs
+  collects_refused : {r : Refusal} → collect_answer pool fresh ours theirs ≡ Err r
+      → Collects pool fresh ours theirs (Err r) fresh ours theirs
   collects_refused e = record {
     answer = sym e;
     bytes = sym (words_refused e fresh _);
@@ -179,12 +180,12 @@ module _ (pool fresh ours theirs : List ℕ) where
     theirs_words = sym (words_refused e theirs _);
   }
 
-  pub collects_unchecked : {v : Verdict} {r : Refusal} → v ≡ collect_verdict pool fresh ours theirs → v ≡ refused_as r
-      → Collects pool fresh ours theirs (refused_as r) fresh ours theirs
+  pub collects_unchecked : {v : Verdict} {r : Refusal} → v ≡ collect_verdict pool fresh ours theirs → v ≡ Err r
+      → Collects pool fresh ours theirs (Err r) fresh ours theirs
   collects_unchecked e f = collects_refused (rw (← e, f))
 
-  collects_answered : {n : ℕ} → collect_answer pool fresh ours theirs ≡ answered n → {fresh' ours' theirs' : List ℕ}
-      → Writes pool fresh ours theirs fresh' ours' theirs' → Collects pool fresh ours theirs (answered n) fresh' ours' theirs'
+  collects_answered : {n : ℕ} → collect_answer pool fresh ours theirs ≡ Ok n → {fresh' ours' theirs' : List ℕ}
+      → Writes pool fresh ours theirs fresh' ours' theirs' → Collects pool fresh ours theirs (Ok n) fresh' ours' theirs'
   collects_answered e v = record {
     answer = sym e;
     bytes = v.bytes ∙ sym (words_answered e fresh _);
@@ -197,6 +198,6 @@ module _ (pool fresh ours theirs : List ℕ) where
     collects_none h = collects_refused (rw (passed, lt-ltb (length fresh) (together kept) (omega (arith, used-kept))))
 
     pub collects_all : used ≤ length fresh → {fresh' ours' theirs' : List ℕ} → Writes pool fresh ours theirs fresh' ours' theirs'
-        → Collects pool fresh ours theirs (answered used) fresh' ours' theirs'
+        → Collects pool fresh ours theirs (Ok used) fresh' ours' theirs'
     collects_all h v =
-        collects_answered (rw (passed, le-ltb (length fresh) (together kept) (omega (arith, used-kept))) (ap answered (sym used-kept))) v
+        collects_answered (rw (passed, le-ltb (length fresh) (together kept) (omega (arith, used-kept))) (ap Ok (sym used-kept))) v

@@ -1,11 +1,12 @@
 -- Worked examples of the definitions. Assumes nothing.
+use Rattle.std.specs.Prelude.{Ok}
 use Prim.Native.Nat.{ℕ}
 use mathlib.Core.Path.{◌≡◌, refl}
 use mathlib.Core.List.{List, [], ◌∷◌}
 use Rattle.key_order.specs.Order.{compare_numbers, compare_keys}
 use Rattle.key_order.specs.Boundary.{compare_boundaries}
 use Rattle.query_item.specs.Items.{item_at, items_from, flat_all}
-use Rattle.item_check.specs.Checks.{answered, refused, first_bad}
+use Rattle.item_check.specs.Checks.{refused, first_bad}
 use Rattle.pool_collect.specs.Collected.{keys_of, is_known, add_key, gather, packed, together, offset_in, collect_answer, collect_bytes, collect_words}
 
 -- four keys in the pool 09 05 07 05: ours is [05,07); theirs are 09, all up to the empty key, which stands at 4, and the other 05
@@ -24,7 +25,7 @@ fresh = 1 ∷ 1 ∷ 1 ∷ 1 ∷ []
 
 -- 05, 07 and 09 are written, and the last byte stays; ours has 05 at 0 and 07 at 1, theirs 09 at 2, the empty key at 0 and 05 at 0
 
-three_used : collect_answer pool fresh ours theirs ≡ answered 3
+three_used : collect_answer pool fresh ours theirs ≡ Ok 3
 unfolding item_at items_from first_bad keys_of gather add_key is_known together compare_keys compare_numbers
 three_used = refl
 
@@ -55,7 +56,7 @@ unfolding item_at items_from first_bad keys_of gather add_key is_known together 
 two_stay = refl
 
 -- an item that is not upright, and items in no order, are taken: [07,05) and 09 before 05
-unordered_taken : collect_answer pool fresh (1 ∷ 0 ∷ 2 ∷ 1 ∷ 1 ∷ 1 ∷ []) (0 ∷ 0 ∷ 0 ∷ 1 ∷ 0 ∷ 0 ∷ 0 ∷ 0 ∷ 1 ∷ 1 ∷ 0 ∷ 0 ∷ []) ≡ answered 3
+unordered_taken : collect_answer pool fresh (1 ∷ 0 ∷ 2 ∷ 1 ∷ 1 ∷ 1 ∷ []) (0 ∷ 0 ∷ 0 ∷ 1 ∷ 0 ∷ 0 ∷ 0 ∷ 0 ∷ 1 ∷ 1 ∷ 0 ∷ 0 ∷ []) ≡ Ok 3
 unfolding item_at items_from first_bad keys_of gather add_key is_known together compare_keys compare_numbers compare_boundaries
 unordered_taken = refl
 

@@ -1,11 +1,16 @@
 -- What the checks leave: both pools small, lists of whole items, not too many, whose keys lie in the pool. Assumes nothing.
-use Prim.Native.Nat.{ℕ, ◌/◌, ◌≤◌}
+use Prim.Native.Nat.{ℕ, ◌+◌, ◌-◌, ◌/◌, ◌≤◌, ◌<◌}
 use mathlib.Core.Path.{◌≡◌}
 use mathlib.Core.List.{List}
 use native.Mathlib.Omega.{arith}
+use native.Mathlib.Numerals.{add-one}
+use Rattle.std.specs.Prelude.{Err}
+use Rattle.query_item.specs.declared.ItemWords.{ItemWords}
 use lib.ListN.{length}
-use Rattle.query_item.specs.Items.{item_size, item_at}
-use Rattle.item_check.specs.Checks.{accepted, item_fault, most_pool, pool_verdict}
+use Rattle.query_item.specs.Items.{item_size, item_at, items_from}
+use Rattle.item_check.specs.declared.Refusal.{Refusal}
+use Rattle.item_check.specs.Checks.{Verdict, accepted, item_fault, fault_at, first_bad, most_pool, pool_verdict}
+use Rattle.item_check.proofs.Scans.{items_more}
 use Rattle.item_check.proofs.Laws.{accepts, pool_passes, items_all}
 use Rattle.pool_collect.specs.Collected.{named_verdict, pools_verdict, lists_verdict, collect_verdict}
 use Rattle.pool_collect.specs.Table.{Accepts}
@@ -38,3 +43,17 @@ admitted pool fresh ours theirs e =
       ours_ok = named_checks pool ours 0 l.0;
       theirs_ok = named_checks pool theirs 1 l.1;
     }
+
+-- ---- a turn of the check of a list: the item at an index is refused, or the rest is left
+
+module _ (pool ws : List ℕ) (side i count : ℕ) (h : i < count) {it : ItemWords} {v : Verdict} (e : v ≡ fault_at (item_fault pool it) side i) (s : it ≡ item_at ws i) where
+  abbrev left : ℕ → Verdict
+  left j = first_bad (item_fault pool) side j (items_from ws j (count - j))
+
+  pub fault_next : v ≡ accepted → left i ≡ left (i + 1)
+  unfolding first_bad
+  fault_next o = rw (items_more ws i count h, ← s, ← e, o, add-one i)
+
+  pub fault_stops : {r : Refusal} → v ≡ Err r → left i ≡ Err r
+  unfolding first_bad
+  fault_stops o = rw (items_more ws i count h, ← s, ← e, o)

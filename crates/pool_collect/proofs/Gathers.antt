@@ -1,5 +1,5 @@
 -- The first pass, a key at a time: an empty key and a known one change nothing, a new one is put into both arrays. Assumes nothing.
-use Prim.Native.Nat.{ℕ, ◌+◌, ◌-◌, ◌%◌, ◌≤◌, ◌<◌}
+use Prim.Native.Nat.{ℕ, ◌+◌, ◌%◌, ◌<◌}
 use mathlib.Core.Path.{◌≡◌, refl, sym, ◌∙◌}
 use mathlib.Core.Bool.{Bool, true, false, cond, true≢false}
 use mathlib.Core.List.{List, [], ◌∷◌, ◌++◌, map-append, append-nil}
@@ -129,46 +129,3 @@ module _ (pool order table : List ℕ) (known used : ℕ) (key : KeyAt) (R : Rea
           most = omega (arith, R.inside.lies.short);
           place = st.used_is ∙ sym (rw keys (offset_last D (bytes_of pool key) new));
         }
-
--- ---- the indices move on, the last first
-
-pub record Moving (T : List ℕ) (p m : ℕ) (j : ℕ) (T' : List ℕ) : Type 0 where
-  pub from : p ≤ j
-  pub to : j ≤ m
-  pub long : length T' ≡ length T
-  pub below : (i : ℕ) → i < j → get_or T' i 0 ≡ get_or T i 0
-  pub moved : (i : ℕ) → j ≤ i → i < m → get_or T' (i + 1) 0 ≡ get_or T i 0
-
-pub moving_start : (T : List ℕ) (p m : ℕ) → p ≤ m → Moving T p m m T
-moving_start T p m h = record {
-  from = h;
-  to = omega arith;
-  long = refl;
-  below = λ i l. refl;
-  moved = λ i a b. absurd (omega arith);
-}
-
-module _ (T : List ℕ) (p m : ℕ) (h : m < length T) (j : ℕ) (T' : List ℕ) (v : Moving T p m j T') where
-  pub moving_more : p < j → Moving T p m (j - 1) (set T' j (get_or T' (j - 1) 0))
-  moving_more l = record {
-    from = omega arith;
-    to = omega (arith, v.to);
-    long = length-set T' j _ ∙ v.long;
-    below = λ i a. get_or-set_other T' j i _ 0 (λ q. omega arith) ∙ v.below i (omega arith);
-    moved = λ i a b. elim (ℕ_discrete i (j - 1)) [
-      | yes q ↦
-          let s : i + 1 ≡ j = omega arith in
-          rw s (get_or-set_same T' j _ 0 (omega (arith, v.long, v.to)) ∙ v.below (j - 1) (omega arith) ∙ rw q)
-      | no q ↦ get_or-set_other T' j (i + 1) _ 0 (λ s. omega arith) ∙ v.moved i (omega arith) b
-    ];
-  }
-
-  pub moving_end : j ≤ p → (e : ℕ) → Inserted T p m e (set T' p e)
-  moving_end l e = record {
-    long = length-set T' p e ∙ v.long;
-    shifted = record {
-      below = λ i a. get_or-set_other T' p i e 0 (λ q. omega arith) ∙ v.below i (omega (arith, v.from));
-      here = get_or-set_same T' p e 0 (omega (arith, v.long, v.to, v.from));
-      moved = λ i a b. get_or-set_other T' p (i + 1) e 0 (λ q. omega arith) ∙ v.moved i (omega arith) b;
-    };
-  }

@@ -1,4 +1,7 @@
 -- The entries in order of bytes: a key is found by halving, and a new one is put where it would stand. Assumes nothing.
+use Rattle.std.specs.declared.cmp.Ordering.{Ordering}
+use Rattle.std.specs.declared.cmp.Ordering.TheVariants.{Less, Equal, Greater}
+use Rattle.std.specs.Ordering.{is_lt}
 use Prim.Native.Nat.{ℕ, ◌+◌, ◌-◌, ◌*◌, ◌/◌, ◌%◌, ◌≤◌, ◌<◌}
 use mathlib.Core.Path.{◌≡◌, refl, sym, ap, ◌∙◌}
 use mathlib.Core.Bool.{Bool, true, false, ◌||◌, true≢false}
@@ -6,11 +9,12 @@ use mathlib.Core.List.{List, [], ◌∷◌, ◌++◌}
 use native.Mathlib.Decide.{dec_lt, ℕ_discrete}
 use native.Mathlib.Omega.{arith}
 use lib.Dec.{ltb}
-use lib.ListN.{length, get_or}
+use lib.ListN.{length, get_or, take}
+use lib.Seq.{get_or-take}
+use Rattle.std.proofs.lemmas.List.{get_or_default}
+use Rattle.std.specs.List.Sorted.{IsPartitionedBy, IsPartitionPoint}
 use borrow.Author.Tests.{ltb-true, ltb-false, lt-ltb, le-ltb}
-use Rattle.key_order.specs.Order.{compare_keys, is_less}
-use Rattle.key_order.specs.declared.Ordering.{Ordering}
-use Rattle.key_order.specs.declared.Ordering.TheVariants.{Less, Equal, Greater}
+use Rattle.key_order.specs.Order.{compare_keys}
 use Rattle.key_order.proofs.Numbers.{says_less, flip}
 use Rattle.key_order.proofs.Laws.{compare_flip, compare_equal, compare_same}
 use Rattle.key_order.proofs.Line.{size, place, place_says}
@@ -18,7 +22,8 @@ use Rattle.query_item.specs.declared.KeyAt.{KeyAt}
 use Rattle.query_item.specs.Items.{bytes_of, same}
 use Rattle.query_item.proofs.Fits.{key_fits}
 use Rattle.pool_collect.specs.Collected.{is_empty, is_known, packed, offset_in}
-use Rattle.pool_collect.specs.Table.{entry_of, new_offset, old_key, entry_key, Ascending, Indexed, Searchable, Spot, Shifted, Inside}
+use Rattle.pool_collect.specs.Table.{is_below as is_below_at}
+use Rattle.pool_collect.specs.Table.{entry_at, entry_of, new_offset, old_key, entry_key, Ascending, Indexed, Searchable, Spot, Shifted, Inside}
 use Rattle.pool_collect.proofs.Distinct.{known_append, known_snoc, known_last, offset_append, offset_last}
 
 -- ---- entries
@@ -39,6 +44,13 @@ pub search_at : {pool order table : List ℕ} {known : ℕ} → Searchable pool 
     → (i < length table) × (get_or table i 0 < length order)
 search_at s i h = (omega (arith, s.table_long), omega (arith, s.indices i h, s.order_long))
 
+-- what is told of the indices in order of bytes
+pub told_below : {pool order table : List ℕ} {known : ℕ} → Searchable pool order table known → (k : List ℕ) → (i d : ℕ) → i < known
+    → is_below_at pool order k (get_or (take known table) i d) ≡ is_lt (compare_keys (entry_key pool (entry_at order table i)) k)
+told_below {table} {known} s k i d h =
+    let e : get_or (take known table) i d ≡ get_or table i 0 = get_or-take known table i d h ∙ get_or_default table i d 0 (omega (arith, s.table_long)) in
+    rw (e, lt-ltb _ _ (search_at s i h).1)
+
 -- an index below m + 1 that is not the spot is that of an old entry before it, or of one after it
 pub old_index : {T T' : ℕ → ℕ} {p m e : ℕ} → Shifted T p m e T' → p ≤ m → (i : ℕ) → i < m + 1 → (i ≡ p → ⊥) → (j : ℕ) × ((j < m) × (T' i ≡ T j))
 old_index {T} {T'} {p} Q w i h n = elim (dec_lt i p) [
@@ -53,7 +65,7 @@ module _ (pool : List ℕ) where
   num k = place (size pool) k
 
   -- the order of a table's key and a key of the pool is that of their numbers
-  less_num : (e : ℕ) (k : KeyAt) → is_less (compare_keys (entry_key pool e) (bytes_of pool k)) ≡ ltb (num (entry_key pool e)) (num (bytes_of pool k))
+  less_num : (e : ℕ) (k : KeyAt) → is_lt (compare_keys (entry_key pool e) (bytes_of pool k)) ≡ ltb (num (entry_key pool e)) (num (bytes_of pool k))
   unfolding entry_key num
   less_num e k =
       says_less (compare_keys (bytes_of pool (old_key e)) (bytes_of pool k)) (place (size pool) (bytes_of pool (old_key e))) (place (size pool) (bytes_of pool k))
@@ -71,74 +83,56 @@ module _ (pool : List ℕ) where
       x : ℕ
       x = num (bytes_of pool key)
 
-      is_below : (i : ℕ) → is_less (compare_keys (entry_key pool (T i)) (bytes_of pool key)) ≡ true → N i < x
+      is_below : (i : ℕ) → is_lt (compare_keys (entry_key pool (T i)) (bytes_of pool key)) ≡ true → N i < x
       unfolding x
       is_below i e = ltb-true _ _ (sym (less_num (T i) key) ∙ e)
 
-      is_not : (i : ℕ) → is_less (compare_keys (entry_key pool (T i)) (bytes_of pool key)) ≡ false → x ≤ N i
+      is_not : (i : ℕ) → is_lt (compare_keys (entry_key pool (T i)) (bytes_of pool key)) ≡ false → x ≤ N i
       unfolding x
       is_not i e = ltb-false _ _ (sym (less_num (T i) key) ∙ e)
 
-      below_is : (i : ℕ) → N i < x → is_less (compare_keys (entry_key pool (T i)) (bytes_of pool key)) ≡ true
+      below_is : (i : ℕ) → N i < x → is_lt (compare_keys (entry_key pool (T i)) (bytes_of pool key)) ≡ true
       unfolding x
       below_is i h = less_num (T i) key ∙ lt-ltb _ _ h
 
-      not_is : (i : ℕ) → x ≤ N i → is_less (compare_keys (entry_key pool (T i)) (bytes_of pool key)) ≡ false
+      not_is : (i : ℕ) → x ≤ N i → is_lt (compare_keys (entry_key pool (T i)) (bytes_of pool key)) ≡ false
       unfolding x
       not_is i h = less_num (T i) key ∙ le-ltb _ _ h
 
-      -- ---- halving: those before low are below the key, those from high on are not
+      -- ---- a list of indices, by a test that says which entries are below the key
 
-      pub record Halved (low high : ℕ) : Type 0 where
-        pub within : low ≤ high
-        pub top : high ≤ m
-        pub below : (i : ℕ) → i < low → is_less (compare_keys (entry_key pool (T i)) (bytes_of pool key)) ≡ true
-        pub others : (i : ℕ) → high ≤ i → i < m → is_less (compare_keys (entry_key pool (T i)) (bytes_of pool key)) ≡ false
+      module _ (xs : List ℕ) (p : ℕ → Bool) (long : length xs ≡ m) (a : Ascending pool T m)
+          (told : (i d : ℕ) → i < m → p (get_or xs i d) ≡ is_lt (compare_keys (entry_key pool (T i)) (bytes_of pool key))) where
+        parted : IsPartitionedBy p xs
+        parted i j d le lt e = elim (ℕ_discrete i j) [
+          | yes q ↦ rw q e
+          | no q ↦
+              let l : j < m = omega arith in
+              told i d (omega arith) ∙ below_is i (omega (arith, ascends a i j (omega arith) l, is_below j (sym (told j d l) ∙ e)))
+        ]
 
-      pub halved_start : Halved 0 m
-      halved_start = record {
-        within = omega arith;
-        top = omega arith;
-        below = λ i h. absurd (omega arith);
-        others = λ i h l. absurd (omega arith);
-      }
-
-      module _ (low high mid : ℕ) (a : Ascending pool T m) (v : Halved low high) (h : low ≤ mid) (l : mid < high) where
-        pub halved_above : is_less (compare_keys (entry_key pool (T mid)) (bytes_of pool key)) ≡ true → Halved (mid + 1) high
-        halved_above e = record {
-          within = omega arith;
-          top = v.top;
-          below = λ i z. elim (ℕ_discrete i mid) [
-            | yes q ↦ rw q e
-            | no q ↦ below_is i (omega (arith, is_below mid e, ascends a i mid (omega arith) (omega (arith, v.top))))
-          ];
-          others = v.others;
-        }
-
-        pub halved_below : is_less (compare_keys (entry_key pool (T mid)) (bytes_of pool key)) ≡ false → Halved low mid
-        halved_below e = record {
-          within = omega arith;
-          top = omega (arith, v.top);
-          below = v.below;
-          others = λ i z y. elim (ℕ_discrete i mid) [
-            | yes q ↦ rw q e
-            | no q ↦ not_is i (omega (arith, is_not mid e, ascends a mid i (omega arith) y))
-          ];
-        }
-
-      pub halved_end : (low high : ℕ) → Halved low high → high ≤ low → Spot pool T m (bytes_of pool key) low
-      halved_end low high v h = record {
-        within = omega (arith, v.top);
-        below = v.below;
-        others = λ i z y. v.others i (omega arith) y;
-      }
+        pub spot_by : {n : ℕ} → n ≤ length xs → (IsPartitionedBy p xs → IsPartitionPoint (λ y. p y ≡ true) (λ y. p y ≡ false) xs n)
+            → Spot pool T m (bytes_of pool key) n
+        spot_by l h =
+            let at = h parted in
+            record {
+              within = omega arith;
+              below = λ i k. sym (told i 0 (omega arith)) ∙ at.0 i 0 (omega arith) k;
+              others = λ i k o. sym (told i 0 o) ∙ at.1 i 0 k (omega arith);
+            }
 
       -- where the last entry is below the key, all are
-      pub past_last : Ascending pool T m → 0 < m → is_less (compare_keys (entry_key pool (T (m - 1))) (bytes_of pool key)) ≡ true
+      pub past_last : Ascending pool T m → 0 < m → is_lt (compare_keys (entry_key pool (T (m - 1))) (bytes_of pool key)) ≡ true
           → Spot pool T m (bytes_of pool key) m
       past_last a h e =
-          let z : m - 1 + 1 ≡ m = omega arith in
-          rw z at (halved_end (m - 1 + 1) m (halved_above 0 m (m - 1) a halved_start (omega arith) (omega arith) e) (omega arith))
+          record {
+            within = omega arith;
+            below = λ i k. elim (ℕ_discrete i (m - 1)) [
+              | yes q ↦ rw q e
+              | no q ↦ below_is i (omega (arith, ascends a i (m - 1) (omega arith) (omega arith), is_below (m - 1) e))
+            ];
+            others = λ i k l. absurd (omega arith);
+          }
 
       -- ---- what stands at the spot
 
@@ -191,10 +185,10 @@ module _ (pool : List ℕ) where
           after i h l = let q : i ≡ i - 1 + 1 = omega arith in ap T' q ∙ Q.moved (i - 1) (omega arith) (omega arith)
 
           -- an old entry from the spot on is above the new key
-          above : (i : ℕ) → p ≤ i → i < m → is_less (compare_keys (bytes_of pool key) (entry_key pool (T i))) ≡ true
+          above : (i : ℕ) → p ≤ i → i < m → is_lt (compare_keys (bytes_of pool key) (entry_key pool (T i))) ≡ true
           above i h l = rw (compare_flip (entry_key pool (T i)) (bytes_of pool key)) (go (compare_keys (entry_key pool (T i)) (bytes_of pool key)) refl (S.others i h l))
             where
-              go : (o : Ordering) → compare_keys (entry_key pool (T i)) (bytes_of pool key) ≡ o → is_less o ≡ false → is_less (flip o) ≡ true
+              go : (o : Ordering) → compare_keys (entry_key pool (T i)) (bytes_of pool key) ≡ o → is_lt o ≡ false → is_lt (flip o) ≡ true
               go Less q z = absurd (true≢false z)
               go Equal q z = absurd (true≢false (sym (rw ((compare_equal _ _).0 q) at (X.sound i l).0) ∙ new))
               go Greater q z = refl

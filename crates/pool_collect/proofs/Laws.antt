@@ -1,4 +1,5 @@
 -- Each law that a caller cites, in the order of specs/. It is stated in the file that the line names, or below. Assumes nothing.
+use Rattle.std.specs.Prelude.{Ok, Err}
 use Prim.Native.Nat.{ℕ, ◌/◌, ◌≤◌}
 use mathlib.Core.Path.{◌≡◌, refl, sym, ap, ap₂, ◌∙◌}
 use mathlib.Core.Bool.{Bool, true, false, cond}
@@ -14,8 +15,8 @@ use Rattle.query_item.specs.declared.ItemWords.{ItemWords}
 use Rattle.query_item.specs.Items.{item_size, items_from, query_item, holds, shown, SameShown}
 use Rattle.query_item.proofs.Laws.{holds_each_shown, holds_any_shown}
 use Rattle.item_check.specs.declared.Refusal.{Refusal}
-use Rattle.item_check.specs.Checks.{Answer, answered, refused, refused_as, Verdict, accepted, and_then, pool_verdict, items_of, list_verdict}
-use Rattle.item_check.proofs.Laws.{refused_apart, answers, words_refused, words_answered, pool_passes}
+use Rattle.item_check.specs.Checks.{Answer, refused, Verdict, accepted, and_then, pool_verdict, items_of, list_verdict}
+use Rattle.item_check.proofs.Laws.{answers, words_refused, words_answered, pool_passes}
 use Rattle.item_lists.specs.Lists.{list_holds}
 use Rattle.item_lists.proofs.Words.{front_items}
 use Rattle.insert_order.specs.Refusals.{ordered_verdict}
@@ -25,10 +26,8 @@ use Rattle.intersect_many.specs.Lists as many
 use Rattle.intersect_many.proofs.Shown.{shared_shown, only_shown, many_answer_shown}
 use Rattle.insert.specs.Insertion.{inserted}
 use Rattle.insert.proofs.Laws.{insert_shown}
-use Rattle.pool_collect.specs.declared.Collected.{Collected}
-use Rattle.pool_collect.specs.declared.Collected.TheVariants.{Used, Refused}
 use Rattle.pool_collect.specs.Collected.{distinct, packed, together, keys_of, collect_verdict}
-use Rattle.pool_collect.specs.Collected.{keys_kept, pool_room_answer, collect_answer, packed_over, rewritten, collect_bytes, collect_words, collected_of}
+use Rattle.pool_collect.specs.Collected.{keys_kept, pool_room_answer, collect_answer, packed_over, rewritten, collect_bytes, collect_words}
 use Rattle.pool_collect.proofs.Kept.{Checks, checks_named, length_rewritten, items_front}
 use Rattle.pool_collect.proofs.Kept.{kept_shown, kept_list, kept_ordered, kept_checks, kept_keys, kept_again}
 use Rattle.pool_collect.proofs.Faults.{admitted}
@@ -42,36 +41,27 @@ pub use Rattle.pool_collect.proofs.Distinct.{offset_inside, reads_packed, offset
 -- the words of an absent key stay 0
 pub use Rattle.pool_collect.proofs.Moved.{absent_moved}
 
--- ---- the answer
-
--- the numbers that an answer stands for tell any two answers apart (01 tight.1)
-pub collected_apart : (r s : Collected) → collected_of r ≡ collected_of s → r ≡ s
-collected_apart (Used m) (Used n) e = cc
-collected_apart (Used m) (Refused s) e = cc
-collected_apart (Refused r) (Used n) e = cc
-collected_apart (Refused r) (Refused s) e = ap Refused (refused_apart r s e)
-
 -- ---- a call that refuses
 
 -- 01 demand.1: the fresh pool and both lists are as they were
-pub collect_refused : (pool fresh ours theirs : List ℕ) {r : Refusal} → collect_answer pool fresh ours theirs ≡ refused_as r
+pub collect_refused : (pool fresh ours theirs : List ℕ) {r : Refusal} → collect_answer pool fresh ours theirs ≡ Err r
     → (collect_bytes pool fresh ours theirs ≡ fresh) × ((ws : List ℕ) → collect_words pool fresh ours theirs ws ≡ ws)
 collect_refused pool fresh ours theirs e = (words_refused e fresh _, λ ws. words_refused e ws _)
 
 -- ---- a call that answers
 
-module _ (pool fresh ours theirs : List ℕ) (used : ℕ) (e : collect_answer pool fresh ours theirs ≡ answered used) where
+module _ (pool fresh ours theirs : List ℕ) (used : ℕ) (e : collect_answer pool fresh ours theirs ≡ Ok used) where
   abbrev kept : List (List ℕ)
   kept = keys_kept pool ours theirs
 
-  passed : (collect_verdict pool fresh ours theirs ≡ accepted) × (pool_room_answer kept fresh ≡ answered used)
+  passed : (collect_verdict pool fresh ours theirs ≡ accepted) × (pool_room_answer kept fresh ≡ Ok used)
   passed = answers (collect_verdict pool fresh ours theirs) (pool_room_answer kept fresh) used e
 
   -- 02 §6.8: the bytes used are those of the distinct keys together, and the fresh pool has room for them
   pub collect_used : (used ≡ together kept) × (used ≤ length fresh)
   collect_used = go (ltb (length fresh) (together kept)) refl passed.1
     where
-      go : (t : Bool) → ltb (length fresh) (together kept) ≡ t → ◌≡◌ {A = Answer ℕ} (cond t (refused 6 0 0) (answered (together kept))) (answered used)
+      go : (t : Bool) → ltb (length fresh) (together kept) ≡ t → ◌≡◌ {A = Answer ℕ} (cond t (refused 6 0 0) (Ok (together kept))) (Ok used)
           → (used ≡ together kept) × (used ≤ length fresh)
       go true p q = impossible cc
       go false p q = let u : together kept ≡ used = cc in (sym u, omega (arith, ltb-false (length fresh) (together kept) p))
@@ -220,7 +210,7 @@ module _ (pool fresh ours theirs : List ℕ) (used : ℕ) (e : collect_answer po
         checks_named P (rewritten pool kept theirs) 1 (again_checks theirs (inr refl)),
       )
 
-      pub again_answer : collect_answer P fresher ours' theirs' ≡ answered used
+      pub again_answer : collect_answer P fresher ours' theirs' ≡ Ok used
       again_answer =
           rw (collect_words_lem ours, collect_words_lem theirs, again_passes, same_keys, ← collect_used.0, le-ltb (length fresher) used room)
 

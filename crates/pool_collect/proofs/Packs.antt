@@ -1,83 +1,80 @@
 -- The keys written one after another, a key at a time. Assumes nothing.
-use Prim.Native.Nat.{ℕ, suc, ◌+◌, ◌≤◌, ◌<◌}
+use Prim.Native.Nat.{ℕ, ◌+◌, ◌-◌, ◌≤◌, ◌<◌}
 use mathlib.Core.Path.{◌≡◌, refl, sym, ap, ◌∙◌}
-use mathlib.Core.List.{List, [], ◌∷◌, ◌++◌, map}
+use mathlib.Core.List.{List, [], ◌∷◌, ◌++◌, append_assoc, append-nil, map, map-append}
 use native.Mathlib.Omega.{arith}
-use native.Mathlib.Nat.{add-zero, zero-add}
 use native.Mathlib.Numerals.{add-one}
-use lib.ListN.{length, get_or, take, drop, set, length-set, length-append, length-take, drop_of_length-le}
-use lib.Seq.{sets, sets-eq, length-sets, drop-cons, get_or-take}
-use Rattle.item_lists.proofs.Written.{sets_append}
+use lib.ListN.{length, get_or, take, drop, take-append-drop, length-append, length-drop}
+use lib.Seq.{take_all, take-suc, take_at, drop_at, drop-drop}
+use borrow.Rule.Slice.PartMut.{put_mid}
 use Rattle.pool_collect.specs.Collected.{packed, packed_over}
-use Rattle.pool_collect.specs.Table.{entry_key, keys_in}
+use Rattle.pool_collect.specs.Table.{entry_key}
+use Rattle.pool_collect.proofs.Distinct.{length_packed}
 
--- ---- one copy: what is left to write at i
+packed_last : (D : List (List ℕ)) (k : List ℕ) → packed (D ++ k ∷ []) ≡ packed D ++ k
+unfolding packed
+packed_last [] k = append-nil k
+packed_last (d ∷ D) k = rw (packed_last D k) (sym (append_assoc d (packed D) k))
 
-pub record Copying (from to₀ : List ℕ) (at i : ℕ) (to : List ℕ) : Type 0 where
-  pub within : i ≤ length from
-  pub long : length to ≡ length to₀
-  pub whole : sets to₀ at from ≡ sets to (at + i) (drop i from)
+module _ (pool es : List ℕ) where
+  -- the keys of the first i entries
+  abbrev pub first_keys : ℕ → List (List ℕ)
+  first_keys i = map (entry_key pool) (take i es)
 
-pub copying_start : (from to : List ℕ) (at : ℕ) → Copying from to at 0 to
-copying_start from to at = record { within = omega arith; long = refl; whole = rw add-zero }
+  abbrev pub all_keys : List (List ℕ)
+  all_keys = map (entry_key pool) es
 
-module _ (from to₀ : List ℕ) (at i : ℕ) (to : List ℕ) (v : Copying from to₀ at i to) where
-  pub copying_more : i < length from → Copying from to₀ at (i + 1) (set to (at + i) (get_or from i 0))
-  copying_more h =
-      let e : at + suc i ≡ suc (at + i) = omega arith in
-      record {
-        within = omega arith;
-        long = length-set to (at + i) (get_or from i 0) ∙ v.long;
-        whole = v.whole ∙ rw (drop-cons from i 0 h, add-one i, e);
-      }
+  -- those of the first i are written, up to `at`
+  pub record Packing (fresh₀ : List ℕ) (i : ℕ) (fresh : List ℕ) (at : ℕ) : Type 0 where
+    pub at_is : at ≡ length (packed (first_keys i))
+    pub written : fresh ≡ packed_over (first_keys i) fresh₀
 
-  pub copying_end : length from ≤ i → to ≡ sets to₀ at from
-  copying_end h = sym (v.whole ∙ rw (drop_of_length-le from h))
+  pub packing_start : (fresh : List ℕ) → Packing fresh 0 fresh 0
+  unfolding packed
+  packing_start fresh = record { at_is = refl; written = refl }
 
--- ---- all keys
+  keys_next : (i : ℕ) → i < length es → packed (first_keys (i + 1)) ≡ packed (first_keys i) ++ entry_key pool (get_or es i 0)
+  keys_next i h =
+      rw (add-one i, take-suc es i 0 h, map-append (entry_key pool) (take i es) (get_or es i 0 ∷ []))
+      (packed_last (first_keys i) (entry_key pool (get_or es i 0)))
 
-module _ (pool order : List ℕ) (known : ℕ) (room : known ≤ length order) where
-  -- the keys from j on
-  abbrev pub keys_left : ℕ → List (List ℕ)
-  keys_left j = map (entry_key pool) (drop j (take known order))
+  first_length : (i : ℕ) → length (packed (first_keys i)) ≤ length (packed all_keys)
+  first_length i =
+      let e : first_keys i ++ map (entry_key pool) (drop i es) ≡ all_keys = sym (map-append (entry_key pool) (take i es) (drop i es)) ∙ ap (map (entry_key pool)) (take-append-drop i es) in
+      omega (arith, ap (λ (D : List (List ℕ)). length (packed D)) e, length_packed (first_keys i) (map (entry_key pool) (drop i es)))
 
-  left_more : (j : ℕ) → j < known → keys_left j ≡ entry_key pool (get_or order j 0) ∷ keys_left (j + 1)
-  left_more j h =
-      rw (drop-cons (take known order) j 0 (rw (length-take known order) (omega arith)), get_or-take known order j 0 h, add-one j)
+  module _ (fresh₀ : List ℕ) (room : length (packed all_keys) ≤ length fresh₀) (i : ℕ) (fresh : List ℕ) (at : ℕ) (v : Packing fresh₀ i fresh at) where
+    abbrev done : List ℕ
+    done = packed (first_keys i)
 
-  left_end : (j : ℕ) → known ≤ j → keys_left j ≡ []
-  left_end j h = rw (drop_of_length-le (take known order) {i = j} (rw (length-take known order) (omega arith)))
+    next_length : i < length es → {k : List ℕ} → k ≡ entry_key pool (get_or es i 0) → length (packed (first_keys (i + 1))) ≡ at + length k
+    next_length h {k} e = rw (v.at_is, keys_next i h, ← e) (length-append done k)
 
-  pub record Packing (fresh₀ : List ℕ) (j : ℕ) (fresh : List ℕ) (at : ℕ) : Type 0 where
-    pub within : j ≤ known
-    pub long : length fresh ≡ length fresh₀
-    pub fits : at + length (packed (keys_left j)) ≤ length fresh
-    pub whole : sets fresh₀ 0 (packed (keys_in pool order known)) ≡ sets fresh at (packed (keys_left j))
+    pub packing_room : i < length es → {k : List ℕ} → k ≡ entry_key pool (get_or es i 0) → at + length k ≤ length fresh
+    packing_room h e =
+        omega (
+          arith,
+          next_length h e,
+          first_length i,
+          first_length (i + 1),
+          v.at_is,
+          room,
+          ap length v.written,
+          length-append done (drop (length done) fresh₀),
+          length-drop (length done) fresh₀,
+        )
 
-  pub packing_start : (fresh : List ℕ) → length (packed (keys_in pool order known)) ≤ length fresh → Packing fresh 0 fresh 0
-  unfolding keys_in
-  packing_start fresh h = record { within = omega arith; long = refl; fits = omega arith; whole = refl }
+    pub packing_more : i < length es → {k fresh' : List ℕ} → k ≡ entry_key pool (get_or es i 0) → fresh' ≡ put_mid at (at + length k - at) fresh k
+        → Packing fresh₀ (i + 1) fresh' (at + length k)
+    packing_more h {k} e p =
+        let long = next_length h e in
+        let front : take at fresh ≡ done = ap (take at) v.written ∙ take_at done (drop (length done) fresh₀) at (sym v.at_is) in
+        let back : drop at fresh ≡ drop (length done) fresh₀ = ap (drop at) v.written ∙ drop_at done (drop (length done) fresh₀) at (sym v.at_is) in
+        let past : length done + (at + length k - at) ≡ at + length k = omega (arith, v.at_is) in
+        record {
+          at_is = sym long;
+          written = p ∙ rw (front, back, drop-drop, past, long, keys_next i h, ← e) (sym (append_assoc done k (drop (at + length k) fresh₀)));
+        }
 
-  module _ (fresh₀ : List ℕ) (j : ℕ) (fresh : List ℕ) (at : ℕ) (v : Packing fresh₀ j fresh at) where
-    split : j < known → packed (keys_left j) ≡ entry_key pool (get_or order j 0) ++ packed (keys_left (j + 1))
-    unfolding packed
-    split h = rw (left_more j h)
-
-    pub packing_room : j < known → at + length (entry_key pool (get_or order j 0)) ≤ length fresh
-    packing_room h =
-        omega (arith, v.fits, ap length (split h), length-append (entry_key pool (get_or order j 0)) (packed (keys_left (j + 1))))
-
-    pub packing_more : j < known → {n : ℕ} {fresh' : List ℕ} → n ≡ length (entry_key pool (get_or order j 0))
-        → fresh' ≡ sets fresh at (entry_key pool (get_or order j 0)) → Packing fresh₀ (j + 1) fresh' (at + n)
-    packing_more h p q = record {
-      within = omega arith;
-      long = ap length q ∙ length-sets fresh at (entry_key pool (get_or order j 0)) ∙ v.long;
-      fits =
-          omega (arith, v.fits, ap length (split h), length-append (entry_key pool (get_or order j 0)) (packed (keys_left (j + 1))), ap length q, length-sets fresh at (entry_key pool (get_or order j 0)));
-      whole = v.whole ∙ rw (split h, p, q) (sets_append (entry_key pool (get_or order j 0)) (packed (keys_left (j + 1))) fresh at);
-    }
-
-    pub packing_end : known ≤ j → length (packed (keys_in pool order known)) ≤ length fresh₀ → fresh ≡ packed_over (keys_in pool order known) fresh₀
-    unfolding packed
-    packing_end h r =
-        sym (v.whole ∙ rw (left_end j h)) ∙ sets-eq (packed (keys_in pool order known)) fresh₀ 0 (omega arith) ∙ rw zero-add
+    pub packing_end : length es ≤ i → fresh ≡ packed_over all_keys fresh₀
+    packing_end h = v.written ∙ rw (take_all i es h)

@@ -1,11 +1,9 @@
 -- Collecting a pool: the keys in use, each once, one after another in a fresh pool, and the items that name them there. Definitions only. Assumes nothing.
-use Rattle.std.specs.Prelude.{ℕ, ◌+◌, ◌≡◌, List, [], ◌∷◌, ◌++◌, map, Bool, true, false, cond, ◌||◌, length, drop, ltb}
+use Rattle.std.specs.Prelude.{ℕ, ◌+◌, ◌≡◌, List, [], ◌∷◌, ◌++◌, map, Bool, true, false, cond, ◌||◌, length, drop, ltb, Ok}
 use Rattle.query_item.specs.declared.KeyAt.{KeyAt}
 use Rattle.query_item.specs.declared.ItemWords.{ItemWords}
 use Rattle.query_item.specs.Items.{bytes_of, same, key_at, with_keys, flat_all}
-use Rattle.pool_collect.specs.declared.Collected.{Collected}
-use Rattle.pool_collect.specs.declared.Collected.TheVariants as collected
-use Rattle.item_check.specs.Checks.{Answer, refused_as, answered, refused, Verdict, and_then, words_by, item_fault, pool_verdict, shape_verdict, first_bad, items_of}
+use Rattle.item_check.specs.Checks.{Answer, refused, Verdict, and_then, words_by, item_fault, pool_verdict, shape_verdict, first_bad, items_of}
 
 -- ---- keys
 
@@ -91,7 +89,7 @@ keys_kept pool ours theirs = distinct (keys_in_use pool (items_of ours) (items_o
 
 -- 02 §6.8: 6 exactly if the distinct keys together exceed the new pool; the answer is how many of its bytes are used
 abbrev pub pool_room_answer : List (List ℕ) → List ℕ → Answer ℕ
-pool_room_answer D fresh = cond (ltb (length fresh) (together D)) (refused 6 0 0) (answered (together D))
+pool_room_answer D fresh = cond (ltb (length fresh) (together D)) (refused 6 0 0) (Ok (together D))
 
 abbrev pub collect_answer : List ℕ → List ℕ → List ℕ → List ℕ → Answer ℕ
 collect_answer pool fresh ours theirs =
@@ -119,8 +117,3 @@ pub record Collects (pool fresh ours theirs : List ℕ) (got : Answer ℕ) (fres
   pub bytes : fresh' ≡ collect_bytes pool fresh ours theirs
   pub ours_words : ours' ≡ collect_words pool fresh ours theirs ours
   pub theirs_words : theirs' ≡ collect_words pool fresh ours theirs theirs
-
--- 01 form.11: the paper's numbers and values for each case of the answer: the bytes used, or the refusal
-abbrev pub collected_of : Collected → Answer ℕ
-collected_of (collected.Used n) = answered n
-collected_of (collected.Refused r) = refused_as r

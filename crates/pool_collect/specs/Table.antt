@@ -1,8 +1,9 @@
 -- What the passes go by: the distinct keys found so far, in order of first use in one array, their indices in order of bytes in another, and where
 -- each key in use goes in a third. It serves 02 §6.2, §6.3, §6.5; no promise of the public call cites it. Definitions only. Assumes nothing.
-use Rattle.std.specs.Prelude.{ℕ, ◌+◌, ◌*◌, ◌/◌, ◌%◌, ◌≤◌, ◌<◌, ◌≡◌, Bool, true, false, cond, List, [], ◌∷◌, map, length, get_or, take, ltb}
+use Rattle.std.specs.Ordering.{is_lt}
+use Rattle.std.specs.Prelude.{ℕ, ◌+◌, ◌*◌, ◌/◌, ◌%◌, ◌≤◌, ◌<◌, ◌≡◌, Bool, true, false, cond, ◌&&◌, List, [], ◌∷◌, map, length, get_or, take, ltb}
 use Rattle.std.proofs.lemmas.List.Edits.{sets}
-use Rattle.key_order.specs.Order.{compare_keys, is_less}
+use Rattle.key_order.specs.Order.{compare_keys}
 use Rattle.query_item.specs.declared.KeyAt.{KeyAt}
 use Rattle.query_item.specs.declared.ItemWords.{ItemWords}
 use Rattle.query_item.specs.Items.{bytes_of, key_at, with_keys, same, item_size, item_at}
@@ -43,7 +44,7 @@ abbrev pub entry_at : List ℕ → List ℕ → ℕ → ℕ
 entry_at order table i = get_or order (get_or table i 0) 0
 
 abbrev pub Ascending : List ℕ → (ℕ → ℕ) → ℕ → Type 0
-Ascending pool T m = (i j : ℕ) → i < j → j < m → is_less (compare_keys (entry_key pool (T i)) (entry_key pool (T j))) ≡ true
+Ascending pool T m = (i j : ℕ) → i < j → j < m → is_lt (compare_keys (entry_key pool (T i)) (entry_key pool (T j))) ≡ true
 
 -- the first m entries ascend and are those of the keys D, with their offsets
 pub record Indexed (pool : List ℕ) (T : ℕ → ℕ) (m : ℕ) (D : List (List ℕ)) : Type 0 where
@@ -55,8 +56,12 @@ pub record Indexed (pool : List ℕ) (T : ℕ → ℕ) (m : ℕ) (D : List (List
 -- where a key stands, or would stand
 pub record Spot (pool : List ℕ) (T : ℕ → ℕ) (m : ℕ) (k : List ℕ) (p : ℕ) : Type 0 where
   pub within : p ≤ m
-  pub below : (i : ℕ) → i < p → is_less (compare_keys (entry_key pool (T i)) k) ≡ true
-  pub others : (i : ℕ) → p ≤ i → i < m → is_less (compare_keys (entry_key pool (T i)) k) ≡ false
+  pub below : (i : ℕ) → i < p → is_lt (compare_keys (entry_key pool (T i)) k) ≡ true
+  pub others : (i : ℕ) → p ≤ i → i < m → is_lt (compare_keys (entry_key pool (T i)) k) ≡ false
+
+-- the key of the entry at an index is below a key; there is none past the entries
+abbrev pub is_below : List ℕ → List ℕ → List ℕ → ℕ → Bool
+is_below pool order k i = ltb i (length order) && is_lt (compare_keys (entry_key pool (get_or order i 0)) k)
 
 -- an entry is put at p, and those up to m move on by one
 pub record Shifted (T : ℕ → ℕ) (p m e : ℕ) (T' : ℕ → ℕ) : Type 0 where

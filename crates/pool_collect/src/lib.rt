@@ -7,14 +7,15 @@
 
 ghost use Rattle.std.specs.Prelude.{◌≡◌};
 ghost use Rattle.item_check.specs.Checks.{accepted};
-ghost use Rattle.pool_collect.specs.Collected.{collect_verdict, Collects, collected_of, keys_kept, together};
+ghost use Rattle.pool_collect.specs.Collected.{collect_verdict, Collects, keys_kept, together};
 ghost use Rattle.pool_collect.specs.Table.{Complete, Start, Writable, Writes};
 
 use crate::check::check_collect;
-use crate::gather::{Gathered, gather_list};
+use crate::gather::gather_list;
 use crate::pack::pack;
 use crate::rewrite::rewrite_list;
-use item_check::{Checked, Refusal, refusal_of};
+use crate::table::Keys;
+use item_check::{Reason, Refusal, refuse};
 use item_words::ITEM_SIZE;
 
 mod check;
@@ -23,29 +24,30 @@ mod pack;
 mod rewrite;
 mod table;
 
-// What `collect` answers: how many bytes of the fresh pool are used, or a refusal.
-#[derive(Clone, Copy)]
-pub enum Collected {
-    Used(usize),
-    Refused(Refusal),
-}
-
 // Packs the keys that two lists name into a fresh pool, rewrites the lists' offsets, and answers how many bytes are used (02 §6.1, §6.5, §6.8).
-pub fn collect(pool: &[u8], fresh: &mut [u8], ours: &mut [u32], theirs: &mut [u32]) -> Collected
+pub fn collect(
+    pool: &[u8],
+    fresh: &mut [u8],
+    ours: &mut [u32],
+    theirs: &mut [u32],
+) -> Result<usize, Refusal>
     ensures { Collects pool.now fresh.old ours.old theirs.old
-        (collected_of result) fresh.new ours.new theirs.new }
+        result fresh.new ours.new theirs.new }
 {
-    match check_collect(pool, fresh, ours, theirs) {
-        Checked::Refused(r) => Collected::Refused(r),
-        Checked::Accepted => collect_checked(pool, fresh, ours, theirs),
-    }
+    check_collect(pool, fresh, ours, theirs)?;
+    collect_checked(pool, fresh, ours, theirs)
 }
 
 // The same of lists that are checked already: what is left to refuse is want of room.
-fn collect_checked(pool: &[u8], fresh: &mut [u8], ours: &mut [u32], theirs: &mut [u32]) -> Collected
+fn collect_checked(
+    pool: &[u8],
+    fresh: &mut [u8],
+    ours: &mut [u32],
+    theirs: &mut [u32],
+) -> Result<usize, Refusal>
     requires { collect_verdict pool.now fresh.old ours.old theirs.old ≡ accepted }
     ensures { Collects pool.now fresh.old ours.old theirs.old
-        (collected_of result) fresh.new ours.new theirs.new }
+        result fresh.new ours.new theirs.new }
 {
     let mut order = [0u64; 8192];
     let mut table = [0u16; 8192];
@@ -70,45 +72,39 @@ fn collect_with(
     order: &mut [u64; 8192],
     table: &mut [u16; 8192],
     places: &mut [u32; 8192],
-) -> Collected
+) -> Result<usize, Refusal>
     requires { collect_verdict pool.now fresh.old ours.old theirs.old ≡ accepted }
     ensures { Collects pool.now fresh.old ours.old theirs.old
-        (collected_of result) fresh.new ours.new theirs.new }
+        result fresh.new ours.new theirs.new }
 {
-    let all = gather_both(pool, ours, theirs, order, table, places);
-    let known = all.known;
-    let used = all.used;
+    let mut keys = Keys {
+        order,
+        table,
+        known: 0,
+        used: 0,
+    };
+    gather_both(pool, ours, theirs, &mut keys, places);
+    let Keys {
+        order,
+        known,
+        used,
+        ..
+    } = keys;
     if fresh.len() < used {
-        return Collected::Refused(refusal_of(6, 0, 0));
+        return refuse(Reason::NoRoom, 0, 0);
     }
     write_all(pool, fresh, ours, theirs, order, places, known);
-    Collected::Used(used)
+    Ok(used)
 }
 
 // The first pass: ours before theirs.
-fn gather_both(
-    pool: &[u8],
-    ours: &[u32],
-    theirs: &[u32],
-    order: &mut [u64],
-    table: &mut [u16],
-    places: &mut [u32],
-) -> Gathered
-    requires { Start pool.now ours.now theirs.now order.old table.old places.old }
-    ensures { Complete pool.now ours.now theirs.now order.new places.new result.known
-        × (result.used ≡ together (keys_kept pool.now ours.now theirs.now)) }
+fn gather_both(pool: &[u8], ours: &[u32], theirs: &[u32], keys: &mut Keys, places: &mut [u32])
+    requires { Start pool.now ours.now theirs.now keys.old.order.now keys.old.table.now places.old × (keys.old.known ≡ 0) × (keys.old.used ≡ 0) }
+    ensures { Complete pool.now ours.now theirs.now keys.new.order.now places.new keys.new.known
+        × (keys.new.used ≡ together (keys_kept pool.now ours.now theirs.now)) }
 {
-    let first = gather_list(pool, ours, order, table, places, 0, 0, 0);
-    gather_list(
-        pool,
-        theirs,
-        order,
-        table,
-        places,
-        first.known,
-        first.used,
-        2 * (ours.len() / ITEM_SIZE),
-    )
+    gather_list(pool, ours, keys, places, 0);
+    gather_list(pool, theirs, keys, places, 2 * (ours.len() / ITEM_SIZE));
 }
 
 // The second pass: the fresh pool, then the offsets.
@@ -124,7 +120,7 @@ fn write_all(
     requires { Writable pool.now fresh.old ours.old theirs.old order.now places.now known }
     ensures { Writes pool.now fresh.old ours.old theirs.old fresh.new ours.new theirs.new }
 {
-    pack(pool, order, known, fresh);
+    pack(pool, &order[..known], fresh);
     let theirs_at = 2 * (ours.len() / ITEM_SIZE);
     rewrite_list(places, 0, ours);
     rewrite_list(places, theirs_at, theirs);

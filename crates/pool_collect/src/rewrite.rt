@@ -30,11 +30,8 @@ pub(crate) fn rewrite_list(places: &[u32], at: usize, words: &mut [u32])
     requires { Noted places.now at words.old }
     ensures { words.new ≡ flat_all (placed_items places.now at (items_of words.old)) }
 {
-    let count = words.len() / ITEM_SIZE;
-    let mut i: usize = 0;
-    while i < count {
+    for i in 0..words.len() / ITEM_SIZE {
         let item = item_at(words, i);
         write_item(words, i, placed_item(places, at + 2 * i, item));
-        i += 1;
     }
 }

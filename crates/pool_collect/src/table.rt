@@ -5,18 +5,20 @@ ghost use Rattle.std.specs.Prelude.{◌≡◌, ◌%◌, ◌≤◌, ◌<◌, leng
 ghost use Rattle.key_order.specs.Order.{compare_keys};
 ghost use Rattle.query_item.specs.Items.{bytes_of};
 ghost use Rattle.item_check.specs.Checks.{most_pool, most_key};
-ghost use Rattle.pool_collect.specs.Table.{most_bytes, entry_of, new_offset, old_key, entry_key, entry_at, Searchable, Spot, Inserted, is_there, Ready, Gathers};
+ghost use Rattle.pool_collect.specs.Table.{most_bytes, entry_of, new_offset, old_key, entry_key, entry_at, Searchable, Spot, is_below, Inserted, is_there, Ready, Gathers};
 
-use key_order::{Ordering, is_equal, is_less};
 use query_item::KeyAt;
 use query_item::pooled::compare_keys;
+use std::cmp::Ordering;
 
-// After a key: how many keys are known, how many bytes they have together, and where the key goes in the fresh pool.
-#[derive(Clone, Copy)]
-pub(crate) struct Placed {
+// The distinct keys found so far: the entries in order of first use, their indices in order of bytes, how many there are, and how many bytes they
+// have together.
+#[derive(Drop)]
+pub(crate) struct Keys<'a> {
+    pub(crate) order: &'a mut [u64],
+    pub(crate) table: &'a mut [u16],
     pub(crate) known: usize,
     pub(crate) used: usize,
-    pub(crate) to: u32,
 }
 
 // Where a key goes in the fresh pool, its offset in the old one and its length, as one number.
@@ -24,7 +26,7 @@ fn entry_of(to: usize, key: KeyAt) -> u64
     requires { (to ≤ most_bytes) × (key.offset ≤ most_pool) × (key.length ≤ most_key) }
     ensures { result ≡ entry_of to key }
 {
-    to as u64 * 16777216 + key.offset as u64 * 256 + key.length as u64
+    to as u64 * 16777216 + u64::from(key.offset) * 256 + u64::from(key.length)
 }
 
 // Where the key of an entry goes.
@@ -44,114 +46,98 @@ pub(crate) fn old_key(entry: u64) -> KeyAt
     }
 }
 
-// The entry whose key is the i-th in order of bytes.
-fn entry_at(order: &[u64], table: &[u16], i: usize) -> u64
-    requires { (i < length table.now) × (get_or table.now i 0 < length order.now) }
-    ensures { result ≡ entry_at order.now table.now i }
+// Whether the key of the entry at an index is below a key. An index past the entries has none.
+#[tactic(auto, unfolding(crate::specs::Table::entry_key))]
+fn is_below(pool: &[u8], order: &[u64], index: u16, key: KeyAt) -> bool
+    ensures { result ≡ is_below pool.now order.now (bytes_of pool.now key) index }
 {
-    let j = table[i] as usize;
-    order[j]
+    match order.get(usize::from(index)) {
+        Some(entry) => compare_keys(pool, old_key(*entry), key).is_lt(),
+        None => false,
+    }
 }
 
-// How its key stands to a key.
-fn compare_entry(pool: &[u8], order: &[u64], table: &[u16], i: usize, key: KeyAt) -> Ordering
-    requires { (i < length table.now) × (get_or table.now i 0 < length order.now) }
-    ensures { result ≡ compare_keys (entry_key pool.now (entry_at order.now table.now i)) (bytes_of pool.now key) }
-{
-    compare_keys(pool, old_key(entry_at(order, table, i)), key)
-}
+// `Searchable` stands in three contracts: it speaks of the pool too, and does not hold between two writes of `gather_key`, so that no ghost field has it.
+impl Keys<'_> {
+    // The entry whose key is the i-th in order of bytes.
+    fn entry_at(&self, i: usize) -> u64
+        requires { (i < length self.now.table.now) × (get_or self.now.table.now i 0 < length self.now.order.now) }
+        ensures { result ≡ entry_at self.now.order.now self.now.table.now i }
+    {
+        let j = self.table[i] as usize;
+        self.order[j]
+    }
 
-// Where a key stands among the first entries, or would stand: half of what is left is told by one of them.
-fn find_spot(pool: &[u8], order: &[u64], table: &[u16], known: usize, key: KeyAt) -> usize
-    requires { Searchable pool.now order.now table.now known }
-    ensures { Spot pool.now (entry_at order.now table.now) known (bytes_of pool.now key) result }
-{
-    let mut low: usize = 0;
-    let mut high = known;
-    while low < high {
-        let mid = low + (high - low) / 2;
-        if is_less(compare_entry(pool, order, table, mid, key)) {
-            low = mid + 1;
-        } else {
-            high = mid;
+    // How its key stands to a key.
+    fn compare_entry(&self, pool: &[u8], i: usize, key: KeyAt) -> Ordering
+        requires { (i < length self.now.table.now) × (get_or self.now.table.now i 0 < length self.now.order.now) }
+        ensures { result ≡ compare_keys (entry_key pool.now (entry_at self.now.order.now self.now.table.now i)) (bytes_of pool.now key) }
+    {
+        compare_keys(pool, old_key(self.entry_at(i)), key)
+    }
+
+    // Where a key stands among the entries, or would stand.
+    fn find_spot(&self, pool: &[u8], key: KeyAt) -> usize
+        requires { Searchable pool.now self.now.order.now self.now.table.now self.now.known }
+        ensures { Spot pool.now (entry_at self.now.order.now self.now.table.now) self.now.known (bytes_of pool.now key) result }
+    {
+        let order = &*self.order;
+        self.table[..self.known].partition_point(|i| is_below(pool, order, *i, key))
+    }
+
+    // The same: past all of them where the last is below the key, as it is where keys come ascending.
+    fn spot_of(&self, pool: &[u8], key: KeyAt) -> usize
+        requires { Searchable pool.now self.now.order.now self.now.table.now self.now.known }
+        ensures { Spot pool.now (entry_at self.now.order.now self.now.table.now) self.now.known (bytes_of pool.now key) result }
+    {
+        if 0 < self.known {
+            if self.compare_entry(pool, self.known - 1, key).is_lt() {
+                return self.known;
+            }
         }
+        self.find_spot(pool, key)
     }
-    low
-}
 
-// The same: past all of them where the last is below the key, as it is where keys come ascending.
-fn spot_of(pool: &[u8], order: &[u64], table: &[u16], known: usize, key: KeyAt) -> usize
-    requires { Searchable pool.now order.now table.now known }
-    ensures { Spot pool.now (entry_at order.now table.now) known (bytes_of pool.now key) result }
-{
-    if 0 < known {
-        if is_less(compare_entry(pool, order, table, known - 1, key)) {
-            return known;
+    // Whether the key at a spot is a key.
+    fn is_there(&self, pool: &[u8], spot: usize, key: KeyAt) -> bool
+        requires { Searchable pool.now self.now.order.now self.now.table.now self.now.known }
+        ensures { result ≡ is_there pool.now (entry_at self.now.order.now self.now.table.now) self.now.known spot (bytes_of pool.now key) }
+    {
+        if spot < self.known {
+            return self.compare_entry(pool, spot, key).is_eq();
         }
+        false
     }
-    find_spot(pool, order, table, known, key)
+
+    // One key more, and where it goes in the fresh pool; the empty key goes to 0.
+    pub(crate) fn gather_key(&mut self, pool: &[u8], key: KeyAt) -> u32
+        requires { Ready pool.now self.old.order.now self.old.table.now self.old.known self.old.used key }
+        ensures { Gathers pool.now self.old.order.now self.old.known self.old.used (bytes_of pool.now key)
+            self.new.order.now self.new.table.now self.new.known self.new.used result }
+    {
+        let long = key.length as usize;
+        if long == 0 {
+            return 0;
+        }
+        let known = self.known;
+        let spot = self.spot_of(pool, key);
+        if self.is_there(pool, spot, key) {
+            return new_offset(self.entry_at(spot));
+        }
+        let used = self.used;
+        self.order[known] = entry_of(used, key);
+        insert_index(self.table, spot, known, known as u16);
+        self.known = known + 1;
+        self.used = used + long;
+        used as u32
+    }
 }
 
-// Whether the key at a spot is a key.
-fn is_there(
-    pool: &[u8],
-    order: &[u64],
-    table: &[u16],
-    known: usize,
-    spot: usize,
-    key: KeyAt,
-) -> bool
-    requires { Searchable pool.now order.now table.now known }
-    ensures { result ≡ is_there pool.now (entry_at order.now table.now) known spot (bytes_of pool.now key) }
-{
-    if spot < known {
-        return is_equal(compare_entry(pool, order, table, spot, key));
-    }
-    false
-}
-
-// Puts an index at a spot; those from there on move on by one, the last first.
+// Puts an index at a spot; those from there on move on by one.
 fn insert_index(table: &mut [u16], spot: usize, known: usize, index: u16)
     requires { (spot ≤ known) × (known < length table.old) }
     ensures { Inserted table.old spot known index table.new }
 {
-    let mut j = known;
-    while spot < j {
-        table[j] = table[j - 1];
-        j -= 1;
-    }
+    table.copy_within(spot..known, spot + 1);
     table[spot] = index;
-}
-
-// One key more; the empty key goes to 0.
-pub(crate) fn gather_key(
-    pool: &[u8],
-    order: &mut [u64],
-    table: &mut [u16],
-    known: usize,
-    used: usize,
-    key: KeyAt,
-) -> Placed
-    requires { Ready pool.now order.old table.old known used key }
-    ensures { Gathers pool.now order.old known used (bytes_of pool.now key) order.new table.new result.known result.used result.to }
-{
-    let long = key.length as usize;
-    if long == 0 {
-        return Placed { known, used, to: 0 };
-    }
-    let spot = spot_of(pool, order, table, known, key);
-    if is_there(pool, order, table, known, spot, key) {
-        return Placed {
-            known,
-            used,
-            to: new_offset(entry_at(order, table, spot)),
-        };
-    }
-    order[known] = entry_of(used, key);
-    insert_index(table, spot, known, known as u16);
-    Placed {
-        known: known + 1,
-        used: used + long,
-        to: used as u32,
-    }
 }

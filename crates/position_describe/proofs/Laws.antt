@@ -1,7 +1,7 @@
--- That answers are told apart, how long the text is, and its examples stored one after another. Assumes nothing.
+-- How long the text is, and its examples stored one after another. Assumes nothing.
+use Rattle.std.specs.Prelude.{Ok}
 use Prim.Native.Nat.{ℕ, suc, ◌+◌, ◌-◌, ◌*◌, ◌≤◌, ◌<◌}
 use mathlib.Core.Path.{◌≡◌, refl, sym, ap, ◌∙◌}
-use mathlib.Core.Bool.{Bool}
 use mathlib.Core.List.{List, [], ◌∷◌, ◌++◌}
 use native.Mathlib.Decide.{dec_lt}
 use native.Mathlib.Numerals.{add-one}
@@ -9,23 +9,11 @@ use native.Mathlib.Omega.{arith}
 use lib.ListN.{length, get_or, take, drop, length-append, length-take, drop_of_length-le}
 use lib.Seq.{drop-cons, get_or-take}
 use borrow.Author.Tests.{lt-ltb, le-ltb}
-use Rattle.item_check.specs.Checks.{answered}
-use Rattle.item_check.proofs.Laws.{refused_apart}
 use Rattle.position_report.specs.declared.PositionMismatch.{PositionMismatch}
 use Rattle.position_report.specs.Reports.{most_reported}
-use Rattle.position_describe.specs.declared.Described.{Described}
-use Rattle.position_describe.specs.declared.Described.TheVariants.{Bytes, Refused}
-use Rattle.position_describe.specs.Text.{positions_word, first_part, later_numbers, numbers, numbers_of, text_of, most_text, describe_answer, described_of}
+use Rattle.position_describe.specs.Text.{positions_word, first_part, later_numbers, numbers, numbers_of, text_of, most_text, describe_answer}
 use Rattle.lent_text.specs.Text.{decimal, stored}
 use Rattle.lent_text.proofs.Laws.{decimal_few, decimal_two, stored_append, stored_none, stored_next}
-
--- ---- answers are told apart
-
-pub described_apart : (r s : Described) → described_of r ≡ described_of s → r ≡ s
-described_apart (Bytes m) (Bytes n) e = cc
-described_apart (Bytes m) (Refused s) e = cc
-described_apart (Refused r) (Bytes n) e = cc
-described_apart (Refused r) (Refused s) e = ap Refused (refused_apart r s e)
 
 -- ---- how long the text is
 
@@ -71,7 +59,7 @@ text_most report h =
 
 -- with room for the longest text no report with so few examples is refused
 pub described_always : (report : PositionMismatch) (room : ℕ) → report.count ≤ most_reported → most_text ≤ room
-    → describe_answer report room ≡ answered (length (text_of report))
+    → describe_answer report room ≡ Ok (length (text_of report))
 described_always report room h k =
     rw (le-ltb most_reported report.count h, le-ltb room (length (text_of report)) (omega (arith, text_most report h)))
 
@@ -101,27 +89,27 @@ unfolding numbers
 numbers_none examples = refl
 
 -- a turn over the examples: the n bytes so far, r of them new, and the bytes with what is left are as they were
-pub left_turn : (w : Bool) (l m examples : List ℕ) (count i at n r : ℕ) → i < count → count ≤ length examples
-    → r ≡ length (44 ∷ 32 ∷ decimal (get_or examples i 0)) → m ≡ stored w l (at + n) (44 ∷ 32 ∷ decimal (get_or examples i 0))
+pub left_turn : (l m examples : List ℕ) (count i at n r : ℕ) → i < count → count ≤ length examples
+    → r ≡ length (44 ∷ 32 ∷ decimal (get_or examples i 0)) → m ≡ stored l (at + n) (44 ∷ 32 ∷ decimal (get_or examples i 0))
     → (n + r + length (left_of examples count (i + 1)) ≡ n + length (left_of examples count i))
-    × (stored w m (at + (n + r)) (left_of examples count (i + 1)) ≡ stored w l (at + n) (left_of examples count i))
-left_turn w l m examples count i at n r h k is-r is_m =
+    × (stored m (at + (n + r)) (left_of examples count (i + 1)) ≡ stored l (at + n) (left_of examples count i))
+left_turn l m examples count i at n r h k is-r is_m =
     let more = left_more examples count i h k in
     let text : List ℕ = 44 ∷ 32 ∷ decimal (get_or examples i 0) in
     let q : at + (n + length text) ≡ at + n + length text = omega arith in
-    (omega (arith, ap length more, length-append text (left_of examples count (i + 1))), rw (is_m, is-r, q, more) (stored_append w l (at + n) text (left_of examples count (i + 1))))
+    (omega (arith, ap length more, length-append text (left_of examples count (i + 1))), rw (is_m, is-r, q, more) (stored_append l (at + n) text (left_of examples count (i + 1))))
 
 -- and at the end the whole list of examples is stored
-pub left_whole : (w : Bool) (l m o : List ℕ) (report : PositionMismatch) (at n₀ n i : ℕ) → 0 < report.count → report.count ≤ length report.examples
-    → report.count ≤ i → n₀ ≡ length (decimal (get_or report.examples 0 0)) → m ≡ stored w l at (decimal (get_or report.examples 0 0))
+pub left_whole : (l m o : List ℕ) (report : PositionMismatch) (at n₀ n i : ℕ) → 0 < report.count → report.count ≤ length report.examples
+    → report.count ≤ i → n₀ ≡ length (decimal (get_or report.examples 0 0)) → m ≡ stored l at (decimal (get_or report.examples 0 0))
     → n + length (left_of report.examples report.count i) ≡ n₀ + length (left_of report.examples report.count 1)
-    → stored w o (at + n) (left_of report.examples report.count i) ≡ stored w m (at + n₀) (left_of report.examples report.count 1)
-    → (n ≡ length (numbers_of report)) × (o ≡ stored w l at (numbers_of report))
-left_whole w l m o report at n₀ n i some fits h is-n is_m long bytes =
+    → stored o (at + n) (left_of report.examples report.count i) ≡ stored m (at + n₀) (left_of report.examples report.count 1)
+    → (n ≡ length (numbers_of report)) × (o ≡ stored l at (numbers_of report))
+left_whole l m o report at n₀ n i some fits h is-n is_m long bytes =
     let e = report.examples in
     let left = left_of e report.count 1 in
     let none : left_of e report.count i ≡ [] = left_end e report.count i h in
     let all : n ≡ n₀ + length left = omega (arith, ap length none, long) in
-    let kept : o ≡ stored w m (at + n₀) left = sym (rw none (stored_none w o (at + n))) ∙ bytes in
-    let both = stored_next w l m o at n₀ (length left) (decimal (get_or e 0 0)) left is_m is-n kept refl in
+    let kept : o ≡ stored m (at + n₀) left = sym (rw none (stored_none o (at + n))) ∙ bytes in
+    let both = stored_next l m o at n₀ (length left) (decimal (get_or e 0 0)) left is_m is-n kept refl in
     rw (numbers_first e report.count some fits) (all ∙ both.0, both.1)

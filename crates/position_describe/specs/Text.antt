@@ -1,11 +1,9 @@
 -- The text of a report, and the answer of `describe`. Definitions only. Assumes nothing.
-use Rattle.std.specs.Prelude.{ℕ, cond, List, [], ◌∷◌, ◌++◌, length, take, drop, ltb}
+use Rattle.std.specs.Prelude.{ℕ, cond, List, [], ◌∷◌, ◌++◌, length, take, drop, ltb, Ok, Err}
 use Rattle.lent_text.specs.Text.{decimal}
-use Rattle.item_check.specs.Checks.{Answer, answered, refused, refused_as}
+use Rattle.item_check.specs.Checks.{Answer, refused}
 use Rattle.position_report.specs.declared.PositionMismatch.{PositionMismatch}
 use Rattle.position_report.specs.Reports.{most_reported}
-use Rattle.position_describe.specs.declared.Described.{Described}
-use Rattle.position_describe.specs.declared.Described.TheVariants.{Bytes, Refused}
 
 -- 01 m6.13: " positions"
 abbrev pub positions_word : List ℕ
@@ -50,14 +48,9 @@ refused_with number = refused number 0 0
 abbrev pub describe_answer : PositionMismatch → ℕ → Answer ℕ
 describe_answer report room =
     cond (ltb most_reported report.count) (refused_with 1)
-    (cond (ltb room (length (text_of report))) (refused_with 6) (answered (length (text_of report))))
+    (cond (ltb room (length (text_of report))) (refused_with 6) (Ok (length (text_of report))))
 
 -- 01 demand.1: the bytes then: the text and what stood past it, or all as they were
 abbrev pub described_in : Answer ℕ → PositionMismatch → List ℕ → List ℕ
-described_in (answered n) report out = text_of report ++ drop (length (text_of report)) out
-described_in (refused_as r) report out = out
-
--- 01 form.11: the paper's numbers for each case of the code's answer
-abbrev pub described_of : Described → Answer ℕ
-described_of (Bytes n) = answered n
-described_of (Refused r) = refused_as r
+described_in (Ok n) report out = text_of report ++ drop (length (text_of report)) out
+described_in (Err r) report out = out

@@ -1,4 +1,5 @@
 -- The checks of intervals and of proved positions: a turn of each loop, and what an accepted list is. Assumes nothing.
+use Rattle.std.specs.Prelude.{Result, Err}
 use Prim.Native.Nat.{ℕ, suc, ◌+◌, ◌-◌, ◌%◌, ◌≤◌, ◌<◌}
 use mathlib.Core.Path.{◌≡◌, refl, sym, ap, ◌∙◌}
 use mathlib.Core.Bool.{Bool, true, false, cond, ◌&&◌}
@@ -12,9 +13,7 @@ use borrow.Author.Tests.{lt-ltb, le-ltb, ltb-true, eq-eqb, eqb-true}
 use Rattle.key_order.proofs.Impossible.{impossible}
 use Rattle.intervals.specs.Intervals.{Interval, Apart, Canonical}
 use Rattle.item_check.specs.declared.Refusal.{Refusal}
-use Rattle.item_check.specs.declared.Checked.{Checked}
-use Rattle.item_check.specs.declared.Checked.TheVariants.{Accepted}
-use Rattle.item_check.specs.Checks.{refused, refused_as, Verdict, accepted, verdict_of}
+use Rattle.item_check.specs.Checks.{refused, Verdict, accepted}
 use Rattle.item_check.proofs.Laws.{accepts}
 use Rattle.pairs_sort.specs.Pairs.{start, finish, pairs_from, pairs}
 use Rattle.pairs_sort.proofs.Laws.{pairs_more, pairs_end}
@@ -22,7 +21,7 @@ use Rattle.position_given.specs.Inner.{Sound, Ascends}
 use Rattle.position_given.specs.Given.{intervals_of, even_verdict, first_touching, canonical_verdict, intervals_verdict, first_falling, ascending_verdict, proved_verdict}
 
 -- a refusal is no acceptance
-pub never_accepted : {X : Type 0} {r : Refusal} → refused_as r ≡ accepted → X
+pub never_accepted : {X : Type 0} {r : Refusal} → Err r ≡ accepted → X
 never_accepted e = impossible cc
 
 -- ---- intervals
@@ -106,15 +105,10 @@ module _ (P : List ℕ) (i p : ℕ) where
   unfolding first_falling
   falling_next h l = rw (drop-cons P i 0 h, lt-ltb p (get_or P i 0) l, add-one i)
 
-pub ascending_none : (P : List ℕ) → length P ≡ 0 → ascending_verdict P ≡ accepted
-unfolding ascending_verdict
-ascending_none [] h = refl
-ascending_none (p ∷ P) h = absurd (omega arith)
-
-pub ascending_start : (P : List ℕ) → 0 < length P → ascending_verdict P ≡ first_falling 1 (get_or P 0 0) (drop 1 P)
-unfolding ascending_verdict
-ascending_start [] h = absurd (omega arith)
-ascending_start (p ∷ P) h = refl
+pub ascending_start : (P : List ℕ) → ascending_verdict P ≡ first_falling 1 (get_or P 0 0) (drop 1 P)
+unfolding ascending_verdict first_falling
+ascending_start [] = refl
+ascending_start (p ∷ P) = refl
 
 falling_ascends : (i p : ℕ) (P : List ℕ) → first_falling i p P ≡ accepted → Ascends (suc p) P
 unfolding first_falling
@@ -145,7 +139,7 @@ ascending_accepts (p ∷ P) h = ascends_falling 1 p P h.1
 -- ---- what a call knows
 
 -- where the intervals are refused, that is the verdict, whatever is proved
-pub intervals_first : (ws P : List ℕ) (r : Refusal) → intervals_verdict ws ≡ refused_as r → proved_verdict ws P ≡ refused_as r
+pub intervals_first : (ws P : List ℕ) (r : Refusal) → intervals_verdict ws ≡ Err r → proved_verdict ws P ≡ Err r
 intervals_first ws P r h = rw h
 
 pub sound : (ws : List ℕ) → intervals_verdict ws ≡ accepted → Sound ws
@@ -161,8 +155,8 @@ sound ws h =
 pub sound_accepts : (ws : List ℕ) → Sound ws → intervals_verdict ws ≡ accepted
 sound_accepts ws S = rw (eq-eqb (length ws % 2) 0 S.even) (canonical_accepts (intervals_of ws) S.canonical)
 
-pub sound_of : (ws : List ℕ) (r : Checked) → verdict_of r ≡ intervals_verdict ws → r ≡ Accepted → Sound ws
-sound_of ws r e a = sound ws (sym e ∙ ap verdict_of a)
+pub sound_of : (ws : List ℕ) (r : Result (Unit {0}) Refusal) → r ≡ intervals_verdict ws → r ≡ accepted → Sound ws
+sound_of ws r e a = sound ws (sym e ∙ a)
 
 -- both, intervals and proved positions
 
@@ -174,5 +168,5 @@ proved_accepted ws P h =
 pub proved_accepts : (ws P : List ℕ) → Sound ws → Ascends 0 P → proved_verdict ws P ≡ accepted
 proved_accepts ws P S a = rw (sound_accepts ws S) (ascending_accepts P a)
 
-pub sound_proved : (ws P : List ℕ) (r : Checked) → verdict_of r ≡ proved_verdict ws P → r ≡ Accepted → Sound ws × Ascends 0 P
-sound_proved ws P r e a = proved_accepted ws P (sym e ∙ ap verdict_of a)
+pub sound_proved : (ws P : List ℕ) (r : Result (Unit {0}) Refusal) → r ≡ proved_verdict ws P → r ≡ accepted → Sound ws × Ascends 0 P
+sound_proved ws P r e a = proved_accepted ws P (sym e ∙ a)

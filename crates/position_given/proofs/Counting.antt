@@ -1,4 +1,5 @@
 -- The pass that checks intervals and counts their rows: a turn of it, and what it answers. Assumes nothing.
+use Rattle.std.specs.Prelude.{Ok, Err}
 use Prim.Native.Nat.{ℕ, ◌+◌, ◌-◌, ◌/◌, ◌≤◌, ◌<◌}
 use mathlib.Core.Path.{◌≡◌, refl, ◌∙◌}
 use mathlib.Core.Bool.{true, false, ◌&&◌}
@@ -10,7 +11,7 @@ use borrow.Author.Tests.{ltb-true}
 use Rattle.key_order.proofs.Impossible.{impossible}
 use Rattle.intervals.specs.Intervals.{Interval}
 use Rattle.item_check.specs.declared.Refusal.{Refusal}
-use Rattle.item_check.specs.Checks.{answered, refused, refused_as, Verdict, accepted, and_then}
+use Rattle.item_check.specs.Checks.{refused, Verdict, accepted, and_then}
 use Rattle.key_order.proofs.Bools.{both_true}
 use Rattle.pairs_sort.specs.Pairs.{start, finish, pairs_from, pairs}
 use Rattle.position_given.specs.Given.{intervals_of, first_touching, canonical_verdict}
@@ -31,7 +32,7 @@ pub record Counting (ws : List ℕ) (count end sum i : ℕ) : Type 0 where
   pub below : sum ≤ end
 
 module _ (ws : List ℕ) (count : ℕ) (all : count ≡ length ws / 2) where
-  pub counted_none : count ≡ 0 → answered 0 ≡ rows_answer (intervals_of ws)
+  pub counted_none : count ≡ 0 → Ok 0 ≡ rows_answer (intervals_of ws)
   counted_none h = rw (← all, canonical_none ws count h) (rw h (unfold positions_of pairs_from in refl))
 
   pub counted_first : 0 < count → finish ws 0 ≤ start ws 0 → refused 9 0 0 ≡ rows_answer (intervals_of ws)
@@ -60,7 +61,7 @@ module _ {ws : List ℕ} {count end sum i : ℕ} (C : Counting ws count end sum 
   pub counted_here : i < count → ltb end (start ws i) && ltb (start ws i) (finish ws i) ≡ false → refused 9 0 i ≡ rows_answer (intervals_of ws)
   counted_here h t = rw (← C.all, C.verdict, touching_here ws i count end h t)
 
-  pub counted_all : count ≤ i → answered sum ≡ rows_answer (intervals_of ws)
+  pub counted_all : count ≤ i → Ok sum ≡ rows_answer (intervals_of ws)
   counted_all h =
       let whole : rows_of (pairs ws count) ≡ sum = omega (arith, C.rows, width_end ws count i h) in
       rw (← C.all, C.verdict, touching_end ws i count end h, whole)
@@ -68,16 +69,16 @@ module _ {ws : List ℕ} {count end sum i : ℕ} (C : Counting ws count end sum 
 -- ---- what the answer tells of the verdict
 
 module _ (A : List Interval) where
-  pub rows_refused : (r : Refusal) → refused_as r ≡ rows_answer A → refused_as r ≡ canonical_verdict A
+  pub rows_refused : (r : Refusal) → Err r ≡ rows_answer A → Err r ≡ canonical_verdict A
   rows_refused r e = go (canonical_verdict A) e
     where
-      go : (v : Verdict) → refused_as r ≡ and_then v (answered (rows_of A)) → refused_as r ≡ v
-      go (answered u) d = impossible cc
-      go (refused_as r) d = cc
+      go : (v : Verdict) → Err r ≡ and_then v (Ok (rows_of A)) → Err r ≡ v
+      go (Ok u) d = impossible cc
+      go (Err r) d = cc
 
-  pub rows_counted : (n : ℕ) → answered n ≡ rows_answer A → (accepted ≡ canonical_verdict A) × (n ≡ rows_of A)
+  pub rows_counted : (n : ℕ) → Ok n ≡ rows_answer A → (accepted ≡ canonical_verdict A) × (n ≡ rows_of A)
   rows_counted n e = go (canonical_verdict A) e
     where
-      go : (v : Verdict) → answered n ≡ and_then v (answered (rows_of A)) → (accepted ≡ v) × (n ≡ rows_of A)
-      go (answered tt) d = (refl, cc)
-      go (refused_as r) d = impossible cc
+      go : (v : Verdict) → Ok n ≡ and_then v (Ok (rows_of A)) → (accepted ≡ v) × (n ≡ rows_of A)
+      go (Ok tt) d = (refl, cc)
+      go (Err r) d = impossible cc

@@ -1,4 +1,5 @@
 -- Pairs at the front of lent words, as a list of intervals of their own; and canonical ones by what they hold. Assumes nothing.
+use Rattle.std.specs.Prelude.{Ok}
 use Prim.Native.Nat.{ℕ, zero, suc, ◌+◌, ◌-◌, ◌*◌, ◌/◌, ◌≤◌}
 use mathlib.Core.Path.{◌≡◌, sym, ap, ◌∙◌}
 use mathlib.Core.Bool.{Bool}
@@ -9,7 +10,6 @@ use lib.ListN.{length, get_or, take, drop, get_or-eq_default}
 use lib.Seq.{length-take-le, ext_get_or, get_or-take, get_or-drop}
 use Rattle.intervals.specs.Intervals.{Interval, Canonical}
 use Rattle.intervals.proofs.Laws.{canonical_unique}
-use Rattle.item_check.specs.Checks.{answered}
 use Rattle.pairs_sort.specs.Pairs.{pairs, flat_pairs, CanonicalPairs}
 use Rattle.pairs_sort.proofs.Laws.{pairs_length, pairs_take, pairs_flat, length_flat}
 use Rattle.pairs_sort.proofs.Flat.{flat_front}
@@ -41,7 +41,7 @@ module _ (ws : List ℕ) (m : ℕ) (C : Canonical (pairs ws m)) where
   front_intervals = front_pairs ws m (canonical_fits ws m C)
 
   -- canonical ones are counted
-  pub front_rows : rows_answer (intervals_of (take (2 * m) ws)) ≡ answered (rows_of (pairs ws m))
+  pub front_rows : rows_answer (intervals_of (take (2 * m) ws)) ≡ Ok (rows_of (pairs ws m))
   front_rows = rw (front_intervals, canonical_accepts (pairs ws m) C)
 
   -- and are what accepted intervals are

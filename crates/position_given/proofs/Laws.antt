@@ -1,16 +1,15 @@
 -- The laws that a caller cites: what the checks accept, exactly; that an ascending list is determined by its members; the rows of a list in
 -- which one more range is covered; and that answers are told apart. No contract cites this file. Assumes nothing.
+use Rattle.std.specs.Prelude.{Err, Ok, Result}
+use Rattle.item_check.specs.declared.Refusal.{Refusal}
 use Prim.Native.Nat.{ℕ}
-use mathlib.Core.Path.{◌≡◌, ap}
+use mathlib.Core.Path.{◌≡◌}
 use mathlib.Core.Logic.{◌↔◌}
 use mathlib.Core.List.{List}
 use Rattle.intervals.specs.Intervals.{Interval, Canonical}
 use Rattle.item_check.specs.Checks.{accepted}
-use Rattle.item_check.proofs.Laws.{refused_apart}
-use Rattle.position_given.specs.declared.Length.{Length}
-use Rattle.position_given.specs.declared.Length.TheVariants as size
+use Rattle.position_given.specs.declared.RowCount.{RowCount}
 use Rattle.position_given.specs.declared.Stored.{Stored}
-use Rattle.position_given.specs.declared.Stored.TheVariants as stored
 use Rattle.position_given.specs.Given.{canonical_verdict, intervals_verdict, ascending_verdict, proved_verdict}
 use Rattle.position_given.specs.Answers.{length_of, stored_of}
 use Rattle.position_given.specs.Inner.{Sound, Ascends}
@@ -37,16 +36,16 @@ proved_exactly ws P = (proved_accepted ws P, λ h. proved_accepts ws P h.0 h.1)
 
 -- ---- answers are told apart
 
-pub length_apart : (r s : Length) → length_of r ≡ length_of s → r ≡ s
-length_apart (size.Rows m) (size.Rows n) e = let h : m.0 ≡ n.0 = cc in λ i. size.Rows (record { 0 = h i })
-length_apart (size.Rows m) (size.Refused s) e = cc
-length_apart (size.Refused r) (size.Rows n) e = cc
-length_apart (size.Refused r) (size.Refused s) e = ap size.Refused (refused_apart r s e)
+pub length_apart : (r s : Result RowCount Refusal) → length_of r ≡ length_of s → r ≡ s
+length_apart (Ok m) (Ok n) e = let h : m.0 ≡ n.0 = cc in λ i. Ok (record { 0 = h i })
+length_apart (Ok m) (Err s) e = cc
+length_apart (Err r) (Ok n) e = cc
+length_apart (Err r) (Err s) e = cc
 
-pub stored_apart : (r s : Stored) → stored_of r ≡ stored_of s → r ≡ s
-stored_apart (stored.Pairs m t) (stored.Pairs n u) e =
-    let p : ◌≡◌ {A = ℕ × ℕ} (m, t.0) (n, u.0) = cc in
-    λ i. stored.Pairs (p i).0 (record { 0 = (p i).1 })
-stored_apart (stored.Pairs m t) (stored.Refused s) e = cc
-stored_apart (stored.Refused r) (stored.Pairs n u) e = cc
-stored_apart (stored.Refused r) (stored.Refused s) e = ap stored.Refused (refused_apart r s e)
+pub stored_apart : (r s : Result Stored Refusal) → stored_of r ≡ stored_of s → r ≡ s
+stored_apart (Ok a) (Ok b) e =
+    let p : ◌≡◌ {A = ℕ × ℕ} (a.pairs, a.rows.0) (b.pairs, b.rows.0) = cc in
+    λ i. Ok (record { pairs = (p i).0; rows = record { 0 = (p i).1 } })
+stored_apart (Ok a) (Err s) e = cc
+stored_apart (Err r) (Ok b) e = cc
+stored_apart (Err r) (Err s) e = cc

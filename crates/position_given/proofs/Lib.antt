@@ -7,4 +7,3 @@ pub mod Counting
 pub mod Rows
 pub mod Fronts
 pub mod Held
-pub mod Indexes

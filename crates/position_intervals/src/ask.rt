@@ -5,23 +5,21 @@ ghost use Rattle.item_check.specs.Checks.{accepted};
 ghost use Rattle.position_given.specs.Given.{intervals_of, intervals_verdict};
 ghost use Rattle.position_given.specs.Inner.{Sound};
 ghost use Rattle.position_given.specs.Answers.{length_of};
-ghost use Rattle.position_intervals.specs.Asked.{yes_or_no_of, contains_answer, len_answer, is_empty_answer};
+ghost use Rattle.position_intervals.specs.Asked.{contains_answer, len_answer, is_empty_answer};
 
-use crate::YesOrNo;
-use item_check::Checked;
-use position_given::{Length, LogPosition, check_even, check_intervals, count_rows};
+use item_check::Refusal;
+use position_given::{LogPosition, RowCount, check_even, check_intervals, count_rows};
 
 // Whether a position lies in one of the intervals (01 m6.3, m6.8, form.2, form.3).
-pub fn contains(intervals: &[u64], position: LogPosition) -> YesOrNo
-    ensures { yes_or_no_of result ≡ contains_answer intervals.now position.0 }
+pub fn contains(intervals: &[u64], position: LogPosition) -> Result<bool, Refusal>
+    ensures { result ≡ contains_answer intervals.now position.0 }
 {
-    match check_intervals(intervals) {
-        Checked::Refused(r) => YesOrNo::Refused(r),
-        Checked::Accepted => YesOrNo::Is(in_one_of(intervals, position)),
-    }
+    check_intervals(intervals)?;
+    Ok(in_one_of(intervals, position))
 }
 
 // The same of canonical intervals: asks one half of them, the one that starts at or below the position where there is a choice.
+// It calls itself, and not `partition_point` over the pairs, since 01 form.3 asks for recursion.
 fn in_one_of(intervals: &[u64], position: LogPosition) -> bool
     requires { Sound intervals.now }
     ensures { result ≡ holds (intervals_of intervals.now) position.0 }
@@ -41,7 +39,8 @@ fn in_one_of(intervals: &[u64], position: LogPosition) -> bool
     in_one_of(&intervals[cut..], position)
 }
 
-// inner: the same, unchecked: it ends on any words, and of intervals that are accepted it answers rightly, by halves too.
+// inner: the same, unchecked: it ends on any words, and of intervals that are accepted it answers rightly, by halves too. The two stand side by
+// side (docs/DECISIONS.md).
 pub fn contains_accepted(intervals: &[u64], position: LogPosition) -> bool
     ensures { intervals_verdict intervals.now ≡ accepted → result ≡ holds (intervals_of intervals.now) position.0 }
 {
@@ -60,21 +59,17 @@ pub fn contains_accepted(intervals: &[u64], position: LogPosition) -> bool
 }
 
 // How many positions are covered (01 m6.9).
-pub fn len(intervals: &[u64]) -> Length
+pub fn len(intervals: &[u64]) -> Result<RowCount, Refusal>
     ensures { length_of result ≡ len_answer intervals.now }
 {
-    match check_even(intervals, 0) {
-        Checked::Refused(r) => Length::Refused(r),
-        Checked::Accepted => count_rows(intervals),
-    }
+    check_even(intervals, 0)?;
+    count_rows(intervals)
 }
 
 // Whether no position is covered (01 m6.9).
-pub fn is_empty(intervals: &[u64]) -> YesOrNo
-    ensures { yes_or_no_of result ≡ is_empty_answer intervals.now }
+pub fn is_empty(intervals: &[u64]) -> Result<bool, Refusal>
+    ensures { result ≡ is_empty_answer intervals.now }
 {
-    match check_intervals(intervals) {
-        Checked::Refused(r) => YesOrNo::Refused(r),
-        Checked::Accepted => YesOrNo::Is(intervals.len() == 0),
-    }
+    check_intervals(intervals)?;
+    Ok(intervals.is_empty())
 }

@@ -3,6 +3,7 @@
 -- cover; they are a stored list, of which `cover` and `uncover` leave what the items cover, with the range or without it, in as few pairs as any
 -- list has that covers it. Stated of each call's own promise: r is what `from_query_items` answers, old and new are the lent words before and after.
 -- And what the calls that ask of intervals answer of any stored list. No contract cites this file. Assumes nothing.
+use Rattle.std.specs.Prelude.{Ok, Err}
 use Prim.Native.Nat.{ℕ, ◌*◌, ◌/◌, ◌%◌, ◌≤◌, ◌<◌}
 use mathlib.Core.Path.{◌≡◌, refl, sym, ap, ◌∙◌}
 use mathlib.Core.Bool.{Bool, false, not, ◌&&◌, ◌||◌}
@@ -14,7 +15,7 @@ use borrow.Author.Tests.{eq-eqb, ne_eqb}
 use Rattle.key_order.proofs.Impossible.{impossible}
 use Rattle.intervals.specs.Lists.{keep}
 use Rattle.intervals.specs.Intervals.{Interval, Canonical, inside, holds}
-use Rattle.item_check.specs.Checks.{Answer, answered, refused_as, Verdict, accepted, and_then, items_of}
+use Rattle.item_check.specs.Checks.{Answer, Verdict, accepted, and_then, items_of}
 use Rattle.pairs_sort.specs.Pairs.{pairs, CanonicalPairs}
 use Rattle.position_given.specs.Given.{intervals_of, intervals_verdict}
 use Rattle.position_given.specs.Inner.{Sound, Ascends}
@@ -36,7 +37,7 @@ use Rattle.position_stored.proofs.Sequences.{Step, Kept, steps, Right, steps_rig
 use Rattle.position_joined.proofs.Covered.{covered_positions}
 
 module _ (pool ws : List ℕ) (count : ℕ) (old new : List ℕ) (r : Answer (ℕ × ℕ))
-    (F : FromQueryItems pool ws count old new r) (m t : ℕ) (is : r ≡ answered (m, t)) where
+    (F : FromQueryItems pool ws count old new r) (m t : ℕ) (is : r ≡ Ok (m, t)) where
   C : CanonicalPairs (covered pool (items_of ws) count) (ranges_needed pool count (items_of ws)) old new m
   C = (F.written m t is).list
 
@@ -65,12 +66,12 @@ module _ (pool ws : List ℕ) (count : ℕ) (old new : List ℕ) (r : Answer (�
   built_total = total ∙ ap length positions
 
   -- 02 §4.2: with a range covered they hold what the items cover or lies in the range
-  pub built_covered : (s e n k : ℕ) → cover_answer new m t s e ≡ answered (n, k) → (p : ℕ)
+  pub built_covered : (s e n k : ℕ) → cover_answer new m t s e ≡ Ok (n, k) → (p : ℕ)
       → holds (pairs (cover_words new m t s e) n) p ≡ inside s e p || covered pool (items_of ws) count p
   built_covered s e n k h p = covered_holds new m t s e n k h p ∙ ap (λ (b : Bool). inside s e p || b) (C.holding p)
 
   -- 02 §4.3: with a range uncovered, what the items cover and does not lie in the range
-  pub built_uncovered : (s e n k : ℕ) → uncover_answer new m t s e ≡ answered (n, k) → (p : ℕ)
+  pub built_uncovered : (s e n k : ℕ) → uncover_answer new m t s e ≡ Ok (n, k) → (p : ℕ)
       → holds (pairs (uncover_words new m t s e) n) p ≡ covered pool (items_of ws) count p && not (inside s e p)
   built_uncovered s e n k h p = uncovered_holds new m t s e n k h p ∙ ap (λ (b : Bool). b && not (inside s e p)) (C.holding p)
 
@@ -100,27 +101,27 @@ module _ (pool ws : List ℕ) (count : ℕ) (old new : List ℕ) (r : Answer (�
     built_unique = steps_unique built xs (covered pool (items_of ws) count) built_stored C.holding
 
   -- 01 m6.3, m6.8: `contains` answers whether a position is covered
-  pub built_contains : (p : ℕ) → contains_answer (take (2 * m) new) p ≡ answered (covered pool (items_of ws) count p)
+  pub built_contains : (p : ℕ) → contains_answer (take (2 * m) new) p ≡ Ok (covered pool (items_of ws) count p)
   built_contains p = rw (built_accepted, written, C.holding p)
 
   -- 01 m6.9: `len` answers how many positions below the count are covered
-  pub built_len : len_answer (take (2 * m) new) ≡ answered (length (keep (covered pool (items_of ws) count) (count_up 0 count)))
+  pub built_len : len_answer (take (2 * m) new) ≡ Ok (length (keep (covered pool (items_of ws) count) (count_up 0 count)))
   built_len = rw (built_accepted, written, positions)
 
   -- 01 m6.9: `is_empty` answers whether there is none
   pub built_is_empty : is_empty_answer (take (2 * m) new)
-      ≡ answered (eqb (length (keep (covered pool (items_of ws) count) (count_up 0 count))) 0)
+      ≡ Ok (eqb (length (keep (covered pool (items_of ws) count) (count_up 0 count))) 0)
   built_is_empty = rw (built_accepted, written, positions)
 
   -- 01 m6.10: of strictly ascending positions P, `missing_from` reports the covered positions that are not in P
   pub built_missing : (P : List ℕ) → Ascends 0 P → missing_answer (take (2 * m) new) P
-      ≡ answered (report_of (keep (λ p. covered pool (items_of ws) count p && not (is_in P p)) (count_up 0 count)))
+      ≡ Ok (report_of (keep (λ p. covered pool (items_of ws) count p && not (is_in P p)) (count_up 0 count)))
   unfolding missing
   built_missing P a = rw (proved_accepts (take (2 * m) new) P sound a, written, positions, keep_keep)
 
   -- 01 m6.10: and `extra_in` those of P that are not covered
   pub built_extra : (P : List ℕ) → Ascends 0 P → extra_answer (take (2 * m) new) P
-      ≡ answered (report_of (keep (λ p. not (covered pool (items_of ws) count p)) P))
+      ≡ Ok (report_of (keep (λ p. not (covered pool (items_of ws) count p)) P))
   unfolding extra
   built_extra P a =
       let same : keep (λ p. not (holds (pairs new m) p)) P ≡ keep (λ p. not (covered pool (items_of ws) count p)) P =
@@ -129,7 +130,7 @@ module _ (pool ws : List ℕ) (count : ℕ) (old new : List ℕ) (r : Answer (�
 
   -- 01 m6.11: of accepted spans S, `missing_from_spans` reports the covered positions that stand in none of them
   pub built_missing_spans : (S : List Interval) → first_crossing 0 0 S ≡ accepted → spans_answer (take (2 * m) new) S
-      ≡ answered (report_of (keep (λ p. covered pool (items_of ws) count p && not (holds S p)) (count_up 0 count)))
+      ≡ Ok (report_of (keep (λ p. covered pool (items_of ws) count p && not (holds S p)) (count_up 0 count)))
   built_missing_spans S h =
       let f : ℕ → Bool = covered pool (items_of ws) count in
       let same : keep (λ p. f p && not (is_in (positions_of S) p)) (count_up 0 count) ≡ keep (λ p. f p && not (holds S p)) (count_up 0 count) =
@@ -137,7 +138,7 @@ module _ (pool ws : List ℕ) (count : ℕ) (old new : List ℕ) (r : Answer (�
       (λ p q. ap (λ (b : Bool). f p && not b) (in_positions S p)) in
       spans_as_positions (take (2 * m) new) S h
       ∙ built_missing (positions_of S) (ascends_spans 0 0 S h)
-      ∙ ap (λ (L : List ℕ). answered (report_of L)) same
+      ∙ ap (λ (L : List ℕ). Ok (report_of L)) same
 
   -- of strictly ascending positions P, and windows of at most W rows, the covered positions that are not in P are planned and checked
   module _ (P : List ℕ) (W : ℕ) (a : Ascends 0 P) (w : 0 < W) where
@@ -155,7 +156,7 @@ module _ (pool ws : List ℕ) (count : ℕ) (old new : List ℕ) (r : Answer (�
 
     -- 02 §9.2: `check_plan` answers whether a plan, words in pairs, is accepted for them
     pub built_checked : (vs : List ℕ) → length vs % 2 ≡ 0 → check_answer (take (2 * m) new) P W vs
-        ≡ answered (accepts W (keep (λ p. covered pool (items_of ws) count p && not (is_in P p)) (count_up 0 count)) (intervals_of vs))
+        ≡ Ok (accepts W (keep (λ p. covered pool (items_of ws) count p && not (is_in P p)) (count_up 0 count)) (intervals_of vs))
     built_checked vs h = rw (built_accepted, eq-eqb (length vs % 2) 0 h, ascending_accepts P a, wide, written, lost)
 
 -- what the calls that ask of intervals answer of the pairs of a stored list, and so of what building, covering and uncovering leave
@@ -165,23 +166,23 @@ module _ (ws : List ℕ) (count total : ℕ) (S : StoredList ws count total) whe
   stored_accepted = sound_accepts (take (2 * count) ws) (front_sound ws count S.canonical)
 
   -- 02 §4.6: the stored total is what `len` counts
-  pub stored_len : len_answer (take (2 * count) ws) ≡ answered total
+  pub stored_len : len_answer (take (2 * count) ws) ≡ Ok total
   stored_len = rw (stored_accepted, front_intervals ws count S.canonical, S.right)
 
   -- 02 §4.6: and what `stored_total` answers
   pub stored_read : total_answer ws count total ≡ len_answer (take (2 * count) ws)
   stored_read = total_read ws count total S ∙ sym stored_len
 
-  pub stored_is_empty : is_empty_answer (take (2 * count) ws) ≡ answered (eqb total 0)
+  pub stored_is_empty : is_empty_answer (take (2 * count) ws) ≡ Ok (eqb total 0)
   stored_is_empty = rw (stored_accepted, front_intervals ws count S.canonical, S.right)
 
-  pub stored_contains : (p : ℕ) → contains_answer (take (2 * count) ws) p ≡ answered (holds (pairs ws count) p)
+  pub stored_contains : (p : ℕ) → contains_answer (take (2 * count) ws) p ≡ Ok (holds (pairs ws count) p)
   stored_contains p = rw (stored_accepted, front_intervals ws count S.canonical)
 
 -- 02 §4.6: words that `len` counts are a stored list with that total
-pub counted_stored : (ws : List ℕ) (t : ℕ) → len_answer ws ≡ answered t → StoredList ws (length ws / 2) t
+pub counted_stored : (ws : List ℕ) (t : ℕ) → len_answer ws ≡ Ok t → StoredList ws (length ws / 2) t
 counted_stored ws t h = go (intervals_verdict ws) refl h
   where
-    go : (v : Verdict) → intervals_verdict ws ≡ v → and_then v (answered (rows_of (intervals_of ws))) ≡ answered t → StoredList ws (length ws / 2) t
-    go (answered u) e q = record { within = omega arith; canonical = (goal.sound ws e).canonical; right = cc }
-    go (refused_as r) e q = impossible cc
+    go : (v : Verdict) → intervals_verdict ws ≡ v → and_then v (Ok (rows_of (intervals_of ws))) ≡ Ok t → StoredList ws (length ws / 2) t
+    go (Ok u) e q = record { within = omega arith; canonical = (goal.sound ws e).canonical; right = cc }
+    go (Err r) e q = impossible cc

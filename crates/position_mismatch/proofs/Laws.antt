@@ -1,7 +1,8 @@
 -- Each law that a caller cites, in the order of specs/: that answers are told apart, how positions are counted, what the walk over spans
 -- gives, and that spans are as their positions. No contract cites this file. Assumes nothing.
+use Rattle.std.specs.Prelude.{Ok, Err}
 use Prim.Native.Nat.{ℕ, suc, ◌+◌, ◌-◌}
-use mathlib.Core.Path.{◌≡◌, refl, sym, ap, ◌∙◌}
+use mathlib.Core.Path.{◌≡◌, refl, sym, ◌∙◌}
 use mathlib.Core.Bool.{Bool, true, false, cond, not, ◌&&◌}
 use mathlib.Core.List.{List, [], ◌∷◌, ◌++◌}
 use lib.ListN.{length}
@@ -11,10 +12,7 @@ use Rattle.intervals.specs.Lists.{keep}
 use Rattle.intervals.specs.Intervals.{Interval, Canonical}
 use Rattle.intervals.specs.Intervals as interval
 use Rattle.intervals.proofs.Laws.{canonical→strict, keep_parts}
-use Rattle.item_check.specs.declared.Checked.{Checked}
-use Rattle.item_check.specs.declared.Checked.TheVariants as checked
-use Rattle.item_check.specs.Checks.{answered, refused, accepted, verdict_of, and_then}
-use Rattle.item_check.proofs.Laws.{refused_apart}
+use Rattle.item_check.specs.Checks.{refused, Verdict, accepted, and_then}
 use Rattle.position_given.specs.Positions.{count_up, positions_of, is_in}
 use Rattle.position_given.specs.Inner.{Ascends}
 use Rattle.position_given.proofs.Accepted.{never_accepted, ascending_accepts}
@@ -29,11 +27,11 @@ pub use Rattle.position_mismatch.proofs.Steps.{spans_answer_lem}
 pub compared_apart : (r s : Compared) → compared_of r ≡ compared_of s → r.report ≡ s.report → r ≡ s
 compared_apart r s e m = let k = go r.checked s.checked e in λ i. record { checked = k i; report = m i }
   where
-    go : (k l : Checked) → and_then (verdict_of k) (answered r.report) ≡ and_then (verdict_of l) (answered s.report) → k ≡ l
-    go checked.Accepted checked.Accepted e = refl
-    go checked.Accepted (checked.Refused y) e = cc
-    go (checked.Refused x) checked.Accepted e = cc
-    go (checked.Refused x) (checked.Refused y) e = ap checked.Refused (refused_apart x y e)
+    go : (k l : Verdict) → and_then k (Ok r.report) ≡ and_then l (Ok s.report) → k ≡ l
+    go (Ok u) (Ok v) e = refl
+    go (Ok u) (Err y) e = cc
+    go (Err x) (Ok v) e = cc
+    go (Err x) (Err y) e = cc
 
 -- ---- positions counted
 

@@ -1,4 +1,5 @@
 -- The walk over spans: a start, a step for each, and a finish give what the spanned positions give. Assumes nothing.
+use Rattle.std.specs.Prelude.{Ok, Err}
 use Prim.Native.Nat.{ℕ, suc, ◌+◌, ◌-◌, ◌≤◌, ◌<◌, min}
 use mathlib.Core.Path.{◌≡◌, refl, sym, ap, subst, ◌∙◌}
 use mathlib.Core.Bool.{Bool, true, false, cond, ◌&&◌, ◌||◌, or-false}
@@ -12,9 +13,7 @@ use Rattle.key_order.proofs.Impossible.{impossible}
 use Rattle.intervals.specs.Intervals.{Interval, inside, holds}
 use Rattle.intervals.proofs.Laws.{holds_append}
 use Rattle.item_check.specs.declared.Refusal.{Refusal}
-use Rattle.item_check.specs.declared.Checked.{Checked}
-use Rattle.item_check.specs.declared.Checked.TheVariants.{Accepted, Refused}
-use Rattle.item_check.specs.Checks.{Answer, answered, refused, refused_as, refusal, Verdict, and_then, verdict_of}
+use Rattle.item_check.specs.Checks.{Answer, refused, refusal, Verdict, accepted, and_then}
 use Rattle.pairs_sort.specs.Pairs.{start, finish, pairs_from, pairs}
 use Rattle.pairs_sort.proofs.Laws.{pairs_more, pairs_end, pairs_length}
 use Rattle.position_given.specs.Given.{intervals_of, intervals_verdict}
@@ -27,56 +26,47 @@ use Rattle.position_report.specs.Reports.{report_of}
 use Rattle.position_mismatch.specs.declared.SpanWalk.{SpanWalk}
 use Rattle.position_mismatch.specs.declared.Compared.{Compared}
 use Rattle.position_mismatch.specs.Reports.{missing, GivesCompared, spans_answer, first_crossing}
-use Rattle.position_mismatch.specs.Inner.{walk_at, over_span, checked_of, start_of, step_from, step_of, steps_of, report_from, finish_of}
+use Rattle.position_mismatch.specs.Inner.{walk_at, over_span, start_of, step_from, step_of, steps_of, report_from, finish_of}
 use Rattle.position_given.proofs.Positions.{in_positions}
 use Rattle.position_mismatch.proofs.Walks.{Reached, reached_start, reached_over, reached_end}
-
--- ---- what the functions hand over
-
-pub checked_of_lem : (r : Checked) (v : Verdict) → verdict_of r ≡ v → r ≡ checked_of v
-checked_of_lem Accepted v e = ap checked_of e
-checked_of_lem (Refused r) v e = ap checked_of e
-
-pub compared_is : (r : Compared) (k : Checked) (m : PositionMismatch) → r.checked ≡ k → r.report ≡ m → r ≡ record { checked = k; report = m }
-compared_is r k m p q = λ i. record { checked = p i; report = q i }
 
 -- ---- the law
 
 -- once refused, always refused
-stays : (ws : List ℕ) (w : SpanWalk) (S : List Interval) (r : Refusal) → verdict_of w.checked ≡ refused_as r
-    → GivesCompared (finish_of ws (steps_of ws w S)) (refused_as r)
+stays : (ws : List ℕ) (w : SpanWalk) (S : List Interval) (r : Refusal) → w.checked ≡ Err r
+    → GivesCompared (finish_of ws (steps_of ws w S)) (Err r)
 unfolding steps_of
 stays ws w [] r e = go w.checked e
   where
-    go : (k : Checked) → verdict_of k ≡ refused_as r → GivesCompared (record { checked = k; report = report_from k ws w.walk }) (refused_as r)
-    go Accepted e = impossible cc
-    go (Refused x) e = record { answer = ap (λ (v : Verdict). and_then {A = PositionMismatch} v (answered (report_of []))) e; report = refl }
+    go : (k : Verdict) → k ≡ Err r → GivesCompared (record { checked = k; report = report_from k ws w.walk }) (Err r)
+    go (Ok u) e = impossible cc
+    go (Err x) e = record { answer = ap (λ (v : Verdict). and_then {A = PositionMismatch} v (Ok (report_of []))) e; report = refl }
 stays ws w (a ∷ S) r e = go w.checked refl e (stays ws w S r e)
   where
-    go : (k : Checked) → w.checked ≡ k → verdict_of k ≡ refused_as r → GivesCompared (finish_of ws (steps_of ws w S)) (refused_as r)
-        → GivesCompared (finish_of ws (steps_of ws (step_of ws w a.0 a.1) S)) (refused_as r)
-    go Accepted q e g = impossible cc
-    go (Refused x) q e g =
-        subst (λ (v : SpanWalk). GivesCompared (finish_of ws (steps_of ws v S)) (refused_as r)) (sym (ap (λ (k : Checked). step_from k ws w a.0 a.1) q)) g
+    go : (k : Verdict) → w.checked ≡ k → k ≡ Err r → GivesCompared (finish_of ws (steps_of ws w S)) (Err r)
+        → GivesCompared (finish_of ws (steps_of ws (step_of ws w a.0 a.1) S)) (Err r)
+    go (Ok u) q e g = impossible cc
+    go (Err x) q e g =
+        subst (λ (v : SpanWalk). GivesCompared (finish_of ws (steps_of ws v S)) (Err r)) (sym (ap (λ (k : Verdict). step_from k ws w a.0 a.1) q)) g
 
 abbrev went : List ℕ → SpanWalk → Interval → SpanWalk
-went ws w a = record { checked = Accepted; seen = min (w.seen + 1) last_word; walk = over_span ws w.walk a.0 a.1 }
+went ws w a = record { checked = accepted; seen = min (w.seen + 1) last_word; walk = over_span ws w.walk a.0 a.1 }
 
 abbrev refused_at : SpanWalk → SpanWalk
-refused_at w = record { checked = Refused (refusal 8 1 w.seen); seen = w.seen; walk = w.walk }
+refused_at w = record { checked = refused 8 1 w.seen; seen = w.seen; walk = w.walk }
 
 -- the answer after the spans of a list, of which those of E are left from index i on, after one that ends at e
 abbrev answer_left : List ℕ → ℕ → ℕ → List Interval → List Interval → Answer PositionMismatch
-answer_left ws i e E L = and_then (first_crossing i e E) (answered (report_of (missing (intervals_of ws) (positions_of L))))
+answer_left ws i e E L = and_then (first_crossing i e E) (Ok (report_of (missing (intervals_of ws) (positions_of L))))
 
 module _ (ws : List ℕ) (W : Words ws) (S : Sound ws) where
   -- after the spans D, with E still to come
-  steps : (D E : List Interval) (w : SpanWalk) → Ends last_word E → w.seen + length E ≤ last_word → w.checked ≡ Accepted → Reached ws (holds D) w.walk
+  steps : (D E : List Interval) (w : SpanWalk) → Ends last_word E → w.seen + length E ≤ last_word → w.checked ≡ accepted → Reached ws (holds D) w.walk
       → GivesCompared (finish_of ws (steps_of ws w E)) (answer_left ws w.seen w.walk.from E (D ++ E))
   unfolding steps_of first_crossing
   steps D [] w en few ok R =
       let whole = reached_end ws (holds D) w.walk (positions_of D) W S R (λ p l. sym (in_positions D p)) in
-      rw (ok, append-nil) (record { answer = ap answered whole; report = whole })
+      rw (ok, append-nil) (record { answer = ap Ok whole; report = whole })
   steps D (a ∷ E) w en few ok R = rw ok (go (leb w.walk.from a.0) (leb a.0 a.1) refl refl (steps (D ++ a ∷ []) E))
     where
       proved : (p : ℕ) → holds (D ++ a ∷ []) p ≡ holds D p || inside a.0 a.1 p
@@ -86,10 +76,10 @@ module _ (ws : List ℕ) (W : Words ws) (S : Sound ws) where
           one s e p = unfold holds in or-false (inside s e p)
 
       go : (t u : Bool) → leb w.walk.from a.0 ≡ t → leb a.0 a.1 ≡ u
-          → ((v : SpanWalk) → Ends last_word E → v.seen + length E ≤ last_word → v.checked ≡ Accepted → Reached ws (holds (D ++ a ∷ [])) v.walk
+          → ((v : SpanWalk) → Ends last_word E → v.seen + length E ≤ last_word → v.checked ≡ accepted → Reached ws (holds (D ++ a ∷ [])) v.walk
           → GivesCompared (finish_of ws (steps_of ws v E)) (answer_left ws v.seen v.walk.from E (D ++ a ∷ [] ++ E)))
           → GivesCompared (finish_of ws (steps_of ws (cond (t && u) (went ws w a) (refused_at w)) E))
-          (and_then (cond (t && u) (first_crossing (suc w.seen) a.1 E) (refused 8 1 w.seen)) (answered (report_of (missing (intervals_of ws) (positions_of (D ++ a ∷ E))))))
+          (and_then (cond (t && u) (first_crossing (suc w.seen) a.1 E) (refused 8 1 w.seen)) (Ok (report_of (missing (intervals_of ws) (positions_of (D ++ a ∷ E))))))
       go true true p q rest =
           let from : w.walk.from ≤ a.0 = leb-true w.walk.from a.0 p in
           let up : a.0 ≤ a.1 = leb-true a.0 a.1 q in
@@ -108,12 +98,12 @@ pub spans_answer_lem : (ws : List ℕ) (S : List Interval) → Words ws → Ends
 spans_answer_lem ws S W en few = go (intervals_verdict ws) refl
   where
     go : (v : Verdict) → intervals_verdict ws ≡ v
-        → GivesCompared (finish_of ws (steps_of ws (record { checked = checked_of v; seen = 0; walk = walk_at 0 0 (report_of []) }) S))
-        (and_then (and_then v (first_crossing 0 0 S)) (answered (report_of (missing (intervals_of ws) (positions_of S)))))
-    go (answered tt) e =
-        steps ws W (sound ws e) [] S (record { checked = Accepted; seen = 0; walk = walk_at 0 0 (report_of []) }) en (omega arith) refl
+        → GivesCompared (finish_of ws (steps_of ws (record { checked = v; seen = 0; walk = walk_at 0 0 (report_of []) }) S))
+        (and_then (and_then v (first_crossing 0 0 S)) (Ok (report_of (missing (intervals_of ws) (positions_of S)))))
+    go (Ok tt) e =
+        steps ws W (sound ws e) [] S (record { checked = accepted; seen = 0; walk = walk_at 0 0 (report_of []) }) en (omega arith) refl
         (reached_start ws (holds []) (sound ws e) (λ p l. unfold holds in refl))
-    go (refused_as r) e = stays ws (record { checked = checked_of (refused_as r); seen = 0; walk = walk_at 0 0 (report_of []) }) S r refl
+    go (Err r) e = stays ws (record { checked = Err r; seen = 0; walk = walk_at 0 0 (report_of []) }) S r refl
 
 -- ---- the loop over spans that are words in pairs: what those from index i on make of the walk is what all make of the start
 

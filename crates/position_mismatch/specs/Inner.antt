@@ -1,18 +1,16 @@
 -- What private and inner functions require and promise: the walks. No public call is promised by these. Definitions only.
 -- It serves 01 m6.10, m6.11, form.9. Assumes nothing.
-use Rattle.std.specs.Prelude.{ℕ, ◌+◌, ◌-◌, ◌/◌, ◌≤◌, ◌<◌, min, max, cond, ◌&&◌, List, [], ◌∷◌, length, leb, ltb}
+use Rattle.std.specs.Prelude.{ℕ, ◌+◌, ◌-◌, ◌/◌, ◌≤◌, ◌<◌, min, max, cond, ◌&&◌, List, [], ◌∷◌, length, leb, ltb, Ok, Err}
 use Rattle.intervals.specs.Intervals.{Interval}
-use Rattle.item_check.specs.declared.Checked.{Checked}
-use Rattle.item_check.specs.declared.Checked.TheVariants.{Accepted, Refused}
-use Rattle.item_check.specs.Checks.{answered, refused_as, refusal, Verdict}
+use Rattle.item_check.specs.Checks.{Answer, refused, Verdict, accepted}
 use Rattle.pairs_sort.specs.Pairs.{finish, pairs_from}
 use Rattle.position_given.specs.Given.{intervals_verdict}
 use Rattle.position_given.specs.Inner.{last_word}
 use Rattle.position_report.specs.declared.PositionMismatch.{PositionMismatch}
-use Rattle.position_report.specs.Reports.{report_at, report_of}
+use Rattle.position_report.specs.Reports.{report_of}
 use Rattle.position_report.specs.Inner.{with_run}
+use Rattle.position_mismatch.specs.Reports.{report_in}
 use Rattle.position_mismatch.specs.declared.Walk.{Walk}
-use Rattle.position_mismatch.specs.declared.gaps.Place.{Place}
 use Rattle.position_mismatch.specs.declared.SpanWalk.{SpanWalk}
 use Rattle.position_mismatch.specs.declared.Compared.{Compared}
 
@@ -20,10 +18,6 @@ use Rattle.position_mismatch.specs.declared.Compared.{Compared}
 
 abbrev pub walk_at : ℕ → ℕ → PositionMismatch → Walk
 walk_at i x r = record { pair = i; from = x; report = r }
-
--- a walk whose examples are lent
-abbrev pub walk_with : Place → List ℕ → Walk
-walk_with p examples = walk_at p.pair p.from (report_at p.total p.count examples)
 
 -- what an interval has from w's place on, below `to`, added to w's report
 abbrev pub with_gap : Interval → Walk → ℕ → PositionMismatch
@@ -51,24 +45,20 @@ pub record FirstPast (ws : List ℕ) (i p r : ℕ) : Type 0 where
 
 -- ---- the walk over spans, a step at a time
 
-abbrev pub checked_of : Verdict → Checked
-checked_of (answered u) = Accepted
-checked_of (refused_as r) = Refused r
-
 abbrev pub start_of : List ℕ → SpanWalk
-start_of ws = record { checked = checked_of (intervals_verdict ws); seen = 0; walk = walk_at 0 0 (report_of []) }
+start_of ws = record { checked = intervals_verdict ws; seen = 0; walk = walk_at 0 0 (report_of []) }
 
 -- a span that starts below the end of the one before it, or above its own, is refused with its index; another is passed over
 abbrev pub step_on : List ℕ → SpanWalk → ℕ → ℕ → SpanWalk
 step_on ws w s e =
     cond (leb w.walk.from s && leb s e)
-    (record { checked = Accepted; seen = min (w.seen + 1) last_word; walk = over_span ws w.walk s e })
-    (record { checked = Refused (refusal 8 1 w.seen); seen = w.seen; walk = w.walk })
+    (record { checked = accepted; seen = min (w.seen + 1) last_word; walk = over_span ws w.walk s e })
+    (record { checked = refused 8 1 w.seen; seen = w.seen; walk = w.walk })
 
 -- once refused, it stays so
-abbrev pub step_from : Checked → List ℕ → SpanWalk → ℕ → ℕ → SpanWalk
-step_from Accepted ws w s e = step_on ws w s e
-step_from (Refused r) ws w s e = w
+abbrev pub step_from : Verdict → List ℕ → SpanWalk → ℕ → ℕ → SpanWalk
+step_from (Ok u) ws w s e = step_on ws w s e
+step_from (Err r) ws w s e = w
 
 abbrev pub step_of : List ℕ → SpanWalk → ℕ → ℕ → SpanWalk
 step_of ws w s e = step_from w.checked ws w s e
@@ -78,9 +68,18 @@ steps_of ws w [] = w
 steps_of ws w (a ∷ S) = steps_of ws (step_of ws w a.0 a.1) S
 
 -- what is left of the intervals is reported; the empty report where something is refused
-abbrev pub report_from : Checked → List ℕ → Walk → PositionMismatch
-report_from Accepted ws w = (report_until (pairs_left ws w) w last_word).report
-report_from (Refused r) ws w = report_of []
+abbrev pub report_from : Verdict → List ℕ → Walk → PositionMismatch
+report_from (Ok u) ws w = (report_until (pairs_left ws w) w last_word).report
+report_from (Err r) ws w = report_of []
 
 abbrev pub finish_of : List ℕ → SpanWalk → Compared
 finish_of ws w = record { checked = w.checked; report = report_from w.checked ws w.walk }
+
+-- ---- an answer and the report that stands in it
+
+abbrev pub verdict_in : Answer PositionMismatch → Verdict
+verdict_in (Ok report) = accepted
+verdict_in (Err r) = Err r
+
+abbrev pub compared : Answer PositionMismatch → Compared
+compared a = record { checked = verdict_in a; report = report_in a }

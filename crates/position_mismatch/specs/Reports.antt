@@ -1,9 +1,9 @@
 -- Which covered and proved positions are missing, extra and present; the check of spans; the answers of the calls that compare. Definitions
 -- only. Assumes nothing.
-use Rattle.std.specs.Prelude.{ℕ, suc, ◌≡◌, List, [], ◌∷◌, cond, not, ◌&&◌, leb}
+use Rattle.std.specs.Prelude.{ℕ, suc, ◌≡◌, List, [], ◌∷◌, cond, not, ◌&&◌, leb, Ok, Err}
 use Rattle.intervals.specs.Lists.{keep}
 use Rattle.intervals.specs.Intervals.{Interval, holds}
-use Rattle.item_check.specs.Checks.{Answer, answered, refused, refused_as, Verdict, accepted, and_then, verdict_of}
+use Rattle.item_check.specs.Checks.{Answer, refused, Verdict, accepted, and_then}
 use Rattle.position_given.specs.Given.{intervals_of, intervals_verdict, proved_verdict}
 use Rattle.position_given.specs.Positions.{positions_of, is_in}
 use Rattle.position_report.specs.declared.PositionMismatch.{PositionMismatch}
@@ -37,23 +37,23 @@ spans_verdict ws spans = and_then (intervals_verdict ws) (first_crossing 0 0 spa
 -- ---- answers (01 m6.10, refusal.6)
 
 abbrev pub missing_answer : List ℕ → List ℕ → Answer PositionMismatch
-missing_answer ws proved = and_then (proved_verdict ws proved) (answered (report_of (missing (intervals_of ws) proved)))
+missing_answer ws proved = and_then (proved_verdict ws proved) (Ok (report_of (missing (intervals_of ws) proved)))
 
 abbrev pub extra_answer : List ℕ → List ℕ → Answer PositionMismatch
-extra_answer ws proved = and_then (proved_verdict ws proved) (answered (report_of (extra (intervals_of ws) proved)))
+extra_answer ws proved = and_then (proved_verdict ws proved) (Ok (report_of (extra (intervals_of ws) proved)))
 
 -- 01 m6.11: `missing_from_spans` gives what the spanned positions would give
 abbrev pub spans_answer : List ℕ → List Interval → Answer PositionMismatch
-spans_answer ws spans = and_then (spans_verdict ws spans) (answered (report_of (missing (intervals_of ws) (positions_of spans))))
+spans_answer ws spans = and_then (spans_verdict ws spans) (Ok (report_of (missing (intervals_of ws) (positions_of spans))))
 
--- 01 form.11: what the code answers, in the paper's numbers and values
+-- 01 form.11: what the code answers: the report, or the check's refusal
 abbrev pub compared_of : Compared → Answer PositionMismatch
-compared_of r = and_then (verdict_of r.checked) (answered r.report)
+compared_of r = and_then r.checked (Ok r.report)
 
 -- 01 form.4: the report that stands in an answer: the empty one where the call is refused
 abbrev pub report_in : Answer PositionMismatch → PositionMismatch
-report_in (answered report) = report
-report_in (refused_as r) = report_of []
+report_in (Ok report) = report
+report_in (Err r) = report_of []
 
 -- 01 m6.10, form.4, form.11: what a call that compares gives: the answer, and the report that stands in it
 pub record GivesCompared (r : Compared) (a : Answer PositionMismatch) : Type 0 where

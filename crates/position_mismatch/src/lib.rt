@@ -10,14 +10,14 @@ pub mod compare;
 mod gaps;
 pub mod spans;
 
-use item_check::Checked;
+use item_check::Refusal;
 use position_report::PositionMismatch;
 
-// What `missing_from`, `missing_from_spans` and `extra_in` answer. Where the call is refused the report is the empty one. (An enum cannot
-// hold the report's array.)
+// What `missing_from`, `missing_from_spans` and `extra_in` answer. It is no `Result`, since where the call is refused the report is promised too: it
+// is the empty one (01 form.4).
 #[derive(Clone, Copy)]
 pub struct Compared {
-    pub checked: Checked,
+    pub checked: Result<(), Refusal>,
     pub report: PositionMismatch,
 }
 
@@ -33,7 +33,7 @@ pub struct Walk {
 // inner: where a walk over spans stands: whether something is refused, and how many spans are seen.
 #[derive(Clone, Copy)]
 pub struct SpanWalk {
-    pub checked: Checked,
+    pub checked: Result<(), Refusal>,
     pub seen: usize,
     pub walk: Walk,
 }

@@ -1,10 +1,11 @@
 -- Worked examples of the definitions. Assumes nothing.
+use Rattle.std.specs.Prelude.{Ok}
 use mathlib.Core.Path.{◌≡◌, refl}
 use mathlib.Core.Bool.{true, false}
 use mathlib.Core.List.{[], ◌∷◌}
 use Rattle.intervals.specs.Lists.{keep}
 use Rattle.intervals.specs.Intervals.{inside, holds}
-use Rattle.item_check.specs.Checks.{answered, refused}
+use Rattle.item_check.specs.Checks.{refused}
 use Rattle.pairs_sort.specs.Pairs.{pairs_from}
 use Rattle.position_given.specs.Given.{canonical_verdict, first_touching, ascending_verdict, first_falling}
 use Rattle.position_given.specs.Positions.{count_up, positions_of, is_in}
@@ -100,6 +101,6 @@ unfolding pairs_from canonical_verdict first_touching ascending_verdict first_fa
 odd_before_positions = refl
 
 -- a bad plan is the answer no
-bad_plan : check_answer (0 ∷ 3 ∷ []) (1 ∷ []) 4 (0 ∷ 2 ∷ []) ≡ answered false
+bad_plan : check_answer (0 ∷ 3 ∷ []) (1 ∷ []) 4 (0 ∷ 2 ∷ []) ≡ Ok false
 unfolding pairs_from canonical_verdict first_touching ascending_verdict first_falling missing keep is_in positions_of count_up ascending each holds inside
 bad_plan = refl

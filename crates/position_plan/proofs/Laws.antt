@@ -1,5 +1,6 @@
--- Each law that a caller cites, in the order of specs/: what it is to be accepted, what the planner's plans are, how the two calls join with each
--- other and with `missing_from_spans`, and that answers are told apart. No contract cites this file. Assumes nothing.
+-- Each law that a caller cites, in the order of specs/: what it is to be accepted, what the planner's plans are, and how the two calls join with
+-- each other and with `missing_from_spans`. No contract cites this file. Assumes nothing.
+use Rattle.std.specs.Prelude.{Ok, Err}
 use Prim.Native.Nat.{ℕ, suc, ◌+◌, ◌-◌, ◌*◌, ◌/◌, ◌%◌, ◌≤◌}
 use mathlib.Core.Path.{◌≡◌, refl, sym, ap, ◌∙◌}
 use mathlib.Core.Logic.{◌↔◌}
@@ -14,8 +15,8 @@ use Rattle.key_order.proofs.Impossible.{impossible}
 use Rattle.intervals.specs.Intervals.{Interval, holds}
 use Rattle.intervals.proofs.Model.{Above}
 use Rattle.intervals.proofs.Laws.{All}
-use Rattle.item_check.specs.Checks.{Answer, answered, refused_as, refusal, accepted}
-use Rattle.item_check.proofs.Laws.{refused_apart, answers}
+use Rattle.item_check.specs.Checks.{Answer, refusal, accepted}
+use Rattle.item_check.proofs.Laws.{answers}
 use Rattle.item_check.proofs.Laws.{accepts as both}
 use Rattle.pairs_sort.specs.Pairs.{flat_pairs}
 use Rattle.pairs_sort.proofs.Laws.{pairs_length, length_flat}
@@ -25,10 +26,8 @@ use Rattle.position_given.proofs.Accepted.{never_accepted}
 use Rattle.position_given.proofs.Fronts.{flat_intervals}
 use Rattle.position_mismatch.specs.Reports.{missing, first_crossing}
 use Rattle.position_given.proofs.Positions.{in_positions}
-use Rattle.position_plan.specs.declared.Planned.{Planned}
-use Rattle.position_plan.specs.declared.Planned.TheVariants as planned
 use Rattle.position_plan.specs.Plans.{accepts, plan, plan_of, asked_verdict, plan_verdict, check_verdict, room_verdict}
-use Rattle.position_plan.specs.Plans.{check_answer, fitted, plan_answer, count_in, written_in, planned_of, PlanRefetch}
+use Rattle.position_plan.specs.Plans.{check_answer, fitted, plan_answer, count_in, written_in, PlanRefetch}
 use Rattle.position_plan.specs.Inner.{Plannable}
 use Rattle.position_plan.proofs.Good.{GoodPlan, accepts_good, good_accepts}
 use Rattle.position_plan.proofs.Search.{missing_is}
@@ -65,7 +64,7 @@ module _ (ws P : List ℕ) (W : ℕ) (K : Plannable ws P W) where
 
 -- room for so many windows is always enough: where nothing is refused before, the plan is answered
 pub planned_answers : (ws P : List ℕ) (W room : ℕ) → plan_verdict ws P W ≡ accepted → length (positions_of (intervals_of ws)) / W + length ws / 2 ≤ room
-    → plan_answer ws P W room ≡ answered (plan_of W ws P)
+    → plan_answer ws P W room ≡ Ok (plan_of W ws P)
 planned_answers ws P W room h l =
     rw (h, le-ltb room (length (plan_of W ws P)) (omega (arith, planned_room ws P W (plan_known ws P W h))))
 
@@ -84,13 +83,13 @@ record Answered (ws P : List ℕ) (W : ℕ) (old : List ℕ) (n : ℕ) : Type 0 
   verdict : plan_verdict ws P W ≡ accepted
   count : n ≡ length (plan_of W ws P)
   room : length (plan_of W ws P) ≤ length old / 2
-  windows : plan_answer ws P W (length old / 2) ≡ answered (plan_of W ws P)
+  windows : plan_answer ws P W (length old / 2) ≡ Ok (plan_of W ws P)
 
 module _ (ws P : List ℕ) (W : ℕ) (old : List ℕ) (n : ℕ) where
   abbrev L : List Interval
   L = plan_of W ws P
 
-  answered_as : answered n ≡ count_in (plan_answer ws P W (length old / 2)) → Answered ws P W old n
+  answered_as : Ok n ≡ count_in (plan_answer ws P W (length old / 2)) → Answered ws P W old n
   answered_as e = go (plan_answer ws P W (length old / 2)) refl e
     where
       fits : room_verdict (length old / 2) L ≡ accepted → length L ≤ length old / 2
@@ -99,15 +98,15 @@ module _ (ws P : List ℕ) (W : ℕ) (old : List ℕ) (n : ℕ) where
         | no l ↦ omega arith
       ]
 
-      go : (x : Answer (List Interval)) → plan_answer ws P W (length old / 2) ≡ x → answered n ≡ count_in x → Answered ws P W old n
-      go (refused_as r) q e = impossible cc
-      go (answered Q) q e =
+      go : (x : Answer (List Interval)) → plan_answer ws P W (length old / 2) ≡ x → Ok n ≡ count_in x → Answered ws P W old n
+      go (Err r) q e = impossible cc
+      go (Ok Q) q e =
           let given = answers (plan_verdict ws P W) (fitted (length old / 2) L) Q q in
-          let room = answers (room_verdict (length old / 2) L) (answered L) Q given.1 in
+          let room = answers (room_verdict (length old / 2) L) (Ok L) Q given.1 in
           let same : L ≡ Q = let r = room.1 in cc in
-          record { verdict = given.0; count = let r = same in cc; room = fits room.0; windows = q ∙ ap answered (sym same) }
+          record { verdict = given.0; count = let r = same in cc; room = fits room.0; windows = q ∙ ap Ok (sym same) }
 
-  module _ (new : List ℕ) (F : PlanRefetch ws P W old (answered n) new) where
+  module _ (new : List ℕ) (F : PlanRefetch ws P W old (Ok n) new) where
     known : Answered ws P W old n
     known = answered_as F.answer
 
@@ -122,18 +121,18 @@ module _ (ws P : List ℕ) (W : ℕ) (old : List ℕ) (n : ℕ) where
         rw (whole, two) (take_at (flat_pairs L) (drop (length (flat_pairs L)) old) (length (flat_pairs L)) refl)
 
     -- 02 §9.8: `check_plan` says yes to what `plan_refetch` writes
-    pub planned_checked : check_answer ws P W (take (2 * n) new) ≡ answered true
+    pub planned_checked : check_answer ws P W (take (2 * n) new) ≡ Ok true
     planned_checked =
         let parts = (both (intervals_verdict ws) (asked_verdict P W)).0 known.verdict in
         let even : length (flat_pairs L) % 2 ≡ 0 = omega (arith, length_flat L) in
         rw (written_windows, parts.0, eq-eqb (length (flat_pairs L) % 2) 0 even, parts.1, flat_intervals L, planned_accepted ws P W (plan_known ws P W known.verdict))
 
     -- a plan that `check_plan` says yes to has no fewer windows than `plan_refetch` writes
-    pub planned_least : (vs : List ℕ) → check_answer ws P W vs ≡ answered true → n ≤ length vs / 2
+    pub planned_least : (vs : List ℕ) → check_answer ws P W vs ≡ Ok true → n ≤ length vs / 2
     planned_least vs h =
         let K = plan_known ws P W known.verdict in
         let M : List ℕ = missing (intervals_of ws) P in
-        let told = (answers (check_verdict ws P W vs) (answered (accepts W M (intervals_of vs))) true h).1 in
+        let told = (answers (check_verdict ws P W vs) (Ok (accepts W M (intervals_of vs))) true h).1 in
         let yes : accepts W M (intervals_of vs) ≡ true = cc in
         omega (arith, known.count, accepted_fewest ws P W K (intervals_of vs) yes, pairs_length vs (length vs / 2) 0)
 
@@ -159,11 +158,3 @@ module _ (ws P : List ℕ) (W : ℕ) (Q : List Interval) (h : accepts W (missing
           let held = (accepts_good W (missing (intervals_of ws) P) Q h).contain p lost in
           absurd (false≢true (sym (rw (in_positions Q p, held)) ∙ c))
       go false u a b c = absurd (false≢true c)
-
--- ---- answers are told apart
-
-pub planned_apart : (r s : Planned) → planned_of r ≡ planned_of s → r ≡ s
-planned_apart (planned.Windows m) (planned.Windows n) e = let q : m ≡ n = cc in ap planned.Windows q
-planned_apart (planned.Windows m) (planned.Refused y) e = cc
-planned_apart (planned.Refused x) (planned.Windows n) e = cc
-planned_apart (planned.Refused x) (planned.Refused y) e = ap planned.Refused (refused_apart x y e)

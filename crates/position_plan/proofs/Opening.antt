@@ -13,7 +13,7 @@ use Rattle.position_mismatch.specs.Reports.{missing}
 use Rattle.position_mismatch.proofs.Laws.{missing_ascends}
 use Rattle.position_plan.specs.declared.runs.Run.{Run}
 use Rattle.position_plan.specs.Plans.{plan, plan_of}
-use Rattle.position_plan.specs.Inner.{is_missing, Behind, Searchable, Backable, AtRun, NextRun, LastRow}
+use Rattle.position_plan.specs.Inner.{is_missing, Behind, Ahead, AtRun, NextRun, LastRow}
 use Rattle.position_plan.specs.Inner.{Plannable, Opens, NextWindow, cut_at, left_from, windows_from}
 use Rattle.position_plan.proofs.Search.{missing_held}
 use Rattle.position_plan.proofs.Turns.{left_all, left_skip, plan_none, plan_close, plan_next}
@@ -21,6 +21,14 @@ use Rattle.position_plan.proofs.Turns.{left_all, left_skip, plan_none, plan_clos
 -- the same places serve a later row
 pub behind_le : {ws P : List ℕ} {i j x y : ℕ} → Behind ws P i j x → x ≤ y → Behind ws P i j y
 behind_le B h = record { pairs = λ k l. omega (arith, B.pairs k l); rows = λ k l. omega (arith, B.rows k l) }
+
+-- the search begins before the first pair and the first position
+pub search_start : {ws P : List ℕ} → Behind ws P 0 0 0
+search_start = record { pairs = λ k l. absurd (omega arith); rows = λ k l. absurd (omega arith) }
+
+-- it goes back from a run, at a row that is no higher
+pub search_back : {ws P : List ℕ} {y x : ℕ} {r : Run} → NextRun ws P y r → x ≤ r.start → Ahead ws P r.pair r.seen x
+search_back F h = record { pairs = λ k a b. omega (arith, F.ahead.pairs k a b); rows = λ k a b. omega (arith, F.ahead.rows k a b) }
 
 -- no row from the last u64 on is missing
 missing_low : (ws P : List ℕ) → Words ws → (p : ℕ) → is_missing ws P p ≡ true → p < last_word
@@ -32,33 +40,6 @@ module _ {ws P : List ℕ} {W : ℕ} (K : Plannable ws P W) where
 
   pub rows_ascend : Ascends 0 M
   rows_ascend = missing_ascends (intervals_of ws) P K.sound.canonical
-
-  -- the search begins before the first pair and the first position
-  pub search_start : Searchable ws P 0 0 0
-  search_start = record {
-    sound = K.sound;
-    ascends = K.ascends;
-    behind = record { pairs = λ k l. absurd (omega arith); rows = λ k l. absurd (omega arith) };
-  }
-
-  -- a search goes on from a run, at a row that is no lower
-  pub search_on : {r : Run} {x : ℕ} → AtRun ws P r → r.start ≤ x → Searchable ws P r.pair r.seen x
-  search_on R h = record {
-    sound = K.sound;
-    ascends = K.ascends;
-    behind = behind_le R.behind h;
-  }
-
-  -- a search goes back from a run, at a row that is no higher
-  pub search_back : {y x : ℕ} {r : Run} → NextRun ws P y r → x ≤ r.start → Backable ws P r.pair r.seen x
-  search_back F h = record {
-    sound = K.sound;
-    ascends = K.ascends;
-    ahead = record {
-      pairs = λ k a b. omega (arith, F.ahead.pairs k a b);
-      rows = λ k a b. omega (arith, F.ahead.rows k a b);
-    };
-  }
 
   -- the windows from the first run on are all
   pub windows_all : {r : Run} → NextRun ws P 0 r → windows_from W ws P r.start ≡ plan_of W ws P
@@ -73,7 +54,7 @@ module _ {ws P : List ℕ} {W : ℕ} (K : Plannable ws P W) where
 
 -- ---- a window that opens at a run
 
-module _ {ws P : List ℕ} {W : ℕ} (U : Words ws) {first : Run} (O : Opens ws P W first) {limit : ℕ} (is-limit : limit ≡ min (first.start + W) last_word) where
+module _ {ws P : List ℕ} {W : ℕ} (K : Plannable ws P W) (U : Words ws) {first : Run} (O : Opens ws P first) {limit : ℕ} (is-limit : limit ≡ min (first.start + W) last_word) where
   abbrev s : ℕ
   s = first.start
 
@@ -81,7 +62,7 @@ module _ {ws P : List ℕ} {W : ℕ} (U : Words ws) {first : Run} (O : Opens ws 
   rows = missing (intervals_of ws) P
 
   up : Ascends 0 rows
-  up = rows_ascend O.plannable
+  up = rows_ascend K
 
   here : is_missing ws P s ≡ true
   here = O.run.all s (omega arith) O.some
@@ -97,7 +78,7 @@ module _ {ws P : List ℕ} {W : ℕ} (U : Words ws) {first : Run} (O : Opens ws 
   -- the next window opens at the first missing row from the limit on
   pub opens_next : {next : Run} → NextRun ws P limit next
       → length (windows_from W ws P s) ≡ suc (length (windows_from W ws P next.start))
-  opens_next {next} F = plan_next W rows up s O.plannable.wide here ∙ ap (λ (L : List ℕ). suc (length (plan W L))) on
+  opens_next {next} F = plan_next W rows up s K.wide here ∙ ap (λ (L : List ℕ). suc (length (plan W L))) on
     where
       on : left_from (s + W) rows ≡ left_from next.start rows
       on = sym (left_skip rows up limit (s + W) (omega arith) far) ∙ left_skip rows up limit next.start F.after F.skipped
@@ -112,7 +93,7 @@ module _ {ws P : List ℕ} {W : ℕ} (U : Words ws) {first : Run} (O : Opens ws 
   }
     where
       within : s < limit
-      within = omega (arith, missing_low ws P U s here, O.plannable.wide)
+      within = omega (arith, missing_low ws P U s here, K.wide)
 
       opens : s < e
       opens = elim (dec_lt s e) [
@@ -132,7 +113,7 @@ module _ {ws P : List ℕ} {W : ℕ} (U : Words ws) {first : Run} (O : Opens ws 
   })
     where
       low : s < limit
-      low = omega (arith, missing_low ws P U s here, O.plannable.wide)
+      low = omega (arith, missing_low ws P U s here, K.wide)
 
       last : LastRow ws P limit limit
       last = record {

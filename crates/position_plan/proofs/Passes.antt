@@ -28,8 +28,8 @@ module _ {ws P : List ℕ} {W : ℕ} (K : Plannable ws P W) where
   passed_start F = record { count = omega (arith, ap length (windows_all K F)); run = F.run }
 
   module _ {r : Run} {n : ℕ} (N : Passed ws P W r n) where
-    pub passed_opens : r.start < r.end → Opens ws P W r
-    passed_opens h = record { plannable = K; run = N.run; some = h }
+    pub passed_opens : r.start < r.end → Opens ws P r
+    passed_opens h = record { run = N.run; some = h }
 
     pub passed_some : r.start < r.end → n < length (plan_of W ws P)
     passed_some h = omega (arith, N.count, windows_some K N.run h)
@@ -47,10 +47,10 @@ module _ {ws P : List ℕ} {W : ℕ} (K : Plannable ws P W) where
     -- the next window opens past the reach of this one
     module _ (U : Words ws) (h : r.start < r.end) {limit : ℕ} (is : limit ≡ min (r.start + W) last_word) {next : Run} (F : NextRun ws P limit next) where
       pub counted_fewer : length (windows_from W ws P next.start) < length (windows_from W ws P r.start)
-      counted_fewer = omega (arith, opens_next U (passed_opens h) is F)
+      counted_fewer = omega (arith, opens_next K U (passed_opens h) is F)
 
       pub counted_more : Passed ws P W next (n + 1)
-      counted_more = record { count = omega (arith, N.count, opens_next U (passed_opens h) is F); run = F.run }
+      counted_more = record { count = omega (arith, N.count, opens_next K U (passed_opens h) is F); run = F.run }
 
     module _ {w : Window} (F : NextWindow ws P W r w) where
       -- fewer windows are left

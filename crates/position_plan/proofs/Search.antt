@@ -1,14 +1,16 @@
 -- The search for the next run of missing rows: what a pair, the first proved position from a row on, and the positions that go on from there tell.
 -- Assumes nothing.
+use Rattle.std.specs.Prelude.{Option, Some, None}
+use Rattle.std.specs.Option.{MatchOption, unwrap_or}
 use Prim.Native.Nat.{ℕ, ◌+◌, ◌-◌, ◌/◌, ◌≤◌, ◌<◌, min, max}
-use mathlib.Core.Path.{◌≡◌, sym, ap, ◌∙◌}
-use mathlib.Core.Bool.{Bool, true, false, cond, not, ◌&&◌, and-false, true≢false, false≢true}
+use mathlib.Core.Path.{◌≡◌, sym, ◌∙◌}
+use mathlib.Core.Bool.{true, false, cond, not, ◌&&◌, and-false}
 use mathlib.Core.List.{List}
 use native.Mathlib.Decide.{dec_lt, ℕ_discrete}
 use native.Mathlib.Omega.{arith}
 use lib.ListN.{length, get_or}
-use lib.Dec.{leb, ltb, eqb}
-use borrow.Author.Tests.{lt-ltb, le-ltb, le-leb, lt-leb, eq-eqb, eqb-true, not-false}
+use lib.Dec.{leb, ltb}
+use borrow.Author.Tests.{lt-ltb, le-ltb, le-leb, lt-leb}
 use Rattle.intervals.specs.Intervals.{holds}
 use Rattle.pairs_sort.specs.Pairs.{start, finish}
 use Rattle.key_order.proofs.Bools.{both_true}
@@ -31,17 +33,6 @@ missing_held ws P p h = (both_true (holds (intervals_of ws) p) (not (is_in P p))
 
 -- ---- the passes over proved positions
 
--- what is asked of row x, with the end e of its pair and the position v
-
-pub goes_further : (x e v : ℕ) → not (ltb x e && eqb v x) ≡ false → (x < e) × (v ≡ x)
-goes_further x e v h = elim (dec_lt x e) [
-  | yes l ↦ (l, eqb-true v x (not-false (eqb v x) (sym (ap not (ap (λ (t : Bool). t && eqb v x) (lt-ltb x e l))) ∙ h)))
-  | no l ↦ absurd (true≢false (sym (ap not (ap (λ (t : Bool). t && eqb v x) (le-ltb x e (omega arith)))) ∙ h))
-]
-
-pub goes_no_further : (x e v : ℕ) → not (ltb x e && eqb v x) ≡ true → x < e → v ≡ x → ⊥
-goes_no_further x e v h l q = false≢true (sym (rw (lt-ltb x e l, eq-eqb v x q)) ∙ h)
-
 -- a position at or above x, and those after it
 pub from_index : (P : List ℕ) → Ascends 0 P → (x j : ℕ) → (j < length P → x ≤ get_or P j 0) → (k : ℕ) → j ≤ k → k < length P → x ≤ get_or P k 0
 from_index P A x j f k u v = elim (dec_lt j k) [
@@ -62,7 +53,7 @@ searched_start B = record { after = omega arith; none = λ p a b. absurd (omega 
 
 module _ {ws P : List ℕ} (S : Sound ws) (A : Ascends 0 P) {from i j x : ℕ} (N : Searched ws P from i j x) where
   -- no pair is left
-  pub searched_end : length ws / 2 ≤ i → {j' : ℕ} → FirstFrom P j x j' → NextRun ws P from (record { start = x; end = x; pair = i; seen = j' })
+  pub searched_end : length ws / 2 ≤ i → {j' : ℕ} → FirstFrom P j x j' → NextRun ws P from (record { start = x; end = x; pair = length ws / 2; seen = j' })
   searched_end h {j'} F = record {
     after = N.after;
     skipped = N.none;
@@ -71,7 +62,7 @@ module _ {ws P : List ℕ} (S : Sound ws) (A : Ascends 0 P) {from i j x : ℕ} (
       none = λ l p a. missing_is ws P p
           ∙ rw (held_at ws i p S.canonical (λ m u. omega (arith, N.behind.pairs m u)) (λ u. absurd (omega arith)), le-ltb i (length ws / 2) h);
       behind = record {
-        pairs = N.behind.pairs;
+        pairs = λ k u. N.behind.pairs k (omega arith);
         rows = λ k l. elim (dec_lt k j) [ yes u ↦ N.behind.rows k u | no u ↦ F.passed k (omega arith) l ];
       };
     };
@@ -187,3 +178,11 @@ module _ {ws P : List ℕ} (S : Sound ws) (A : Ascends 0 P) {from i j x : ℕ} (
         where
           unproved : (p : ℕ) → y ≤ p → p < t → is_in P p ≡ false
           unproved p a b = in_gap 0 P j' p A (λ k u. omega (arith, rows_below k u)) (λ u. omega (arith, stop_some u))
+
+-- what `find` tells of the positions from an index on
+pub first_found : (l : List ℕ) (i x : ℕ) (r : Option ℕ) (m : ℕ)
+    → MatchOption r ((k : ℕ) → i ≤ k → k < length l → get_or l k 0 < x)
+    (λ f. (i ≤ f) × (f < length l) × (x ≤ get_or l f 0) × ((k : ℕ) → i ≤ k → k < f → get_or l k 0 < x))
+    → m ≡ max i (length l) → FirstFrom l i x (unwrap_or r m)
+first_found l i x None m f is = record { after = omega arith; passed = λ k h u. f k h (omega arith); found = λ h. absurd (omega arith) }
+first_found l i x (Some k) m f is = record { after = f.0; passed = f.3; found = λ h. f.2 }

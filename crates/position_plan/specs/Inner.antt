@@ -4,15 +4,14 @@ use Rattle.std.specs.Prelude.{ℕ, ◌+◌, ◌-◌, ◌/◌, ◌≤◌, ◌<◌
 use Rattle.std.proofs.lemmas.List.Edits.{sets}
 use Rattle.intervals.specs.Lists.{keep}
 use Rattle.intervals.specs.Intervals.{Interval}
-use Rattle.item_check.specs.Checks.{Answer}
 use Rattle.pairs_sort.specs.Pairs.{start, finish, flat_pairs}
 use Rattle.position_given.specs.Given.{intervals_of}
-use Rattle.position_given.specs.Positions.{positions_of, is_in}
+use Rattle.position_given.specs.Positions.{is_in}
 use Rattle.position_given.specs.Inner.{Sound, Ascends}
 use Rattle.position_mismatch.specs.Reports.{missing}
 use Rattle.position_plan.specs.declared.runs.Run.{Run}
 use Rattle.position_plan.specs.declared.windows.Window.{Window}
-use Rattle.position_plan.specs.Plans.{plan, plan_of, fitted, count_in, written_in}
+use Rattle.position_plan.specs.Plans.{plan, plan_of}
 
 -- ---- the search
 
@@ -25,22 +24,10 @@ pub record Behind (ws proved : List ℕ) (i j x : ℕ) : Type 0 where
   pub pairs : (k : ℕ) → k < i → finish ws k ≤ x
   pub rows : (k : ℕ) → k < j → get_or proved k 0 < x
 
--- a search from row x on, with the places where it starts
-pub record Searchable (ws proved : List ℕ) (i j x : ℕ) : Type 0 where
-  pub sound : Sound ws
-  pub ascends : Ascends 0 proved
-  pub behind : Behind ws proved i j x
-
 -- the pairs past i, and the proved positions from j on, are at or above row x
 pub record Ahead (ws proved : List ℕ) (i j x : ℕ) : Type 0 where
   pub pairs : (k : ℕ) → i < k → k < length ws / 2 → x ≤ start ws k
   pub rows : (k : ℕ) → j ≤ k → k < length proved → x ≤ get_or proved k 0
-
--- a search back from row x, with the places where it starts
-pub record Backable (ws proved : List ℕ) (i j x : ℕ) : Type 0 where
-  pub sound : Sound ws
-  pub ascends : Ascends 0 proved
-  pub ahead : Ahead ws proved i j x
 
 -- a run of missing rows; where it has none, no row from its start on is missing
 pub record AtRun (ws proved : List ℕ) (r : Run) : Type 0 where
@@ -104,8 +91,7 @@ pub record Plannable (ws proved : List ℕ) (W : ℕ) : Type 0 where
   pub wide : 0 < W
 
 -- what a window opens at: a run that has a row
-pub record Opens (ws proved : List ℕ) (W : ℕ) (r : Run) : Type 0 where
-  pub plannable : Plannable ws proved W
+pub record Opens (ws proved : List ℕ) (r : Run) : Type 0 where
   pub run : AtRun ws proved r
   pub some : r.start < r.end
 
@@ -120,22 +106,7 @@ cut_at r limit = record { end = limit; next = record { start = limit; end = r.en
 
 -- ---- the call
 
--- what is known when the room is asked: so many rows are covered
-pub record Covered (ws proved : List ℕ) (W covered : ℕ) : Type 0 where
-  pub plannable : Plannable ws proved W
-  pub rows : covered ≡ length (positions_of (intervals_of ws))
-
--- the windows fit what is lent
-pub record Fitting (ws proved : List ℕ) (W : ℕ) (old : List ℕ) : Type 0 where
-  pub plannable : Plannable ws proved W
-  pub room : length (plan_of W ws proved) ≤ length old / 2
-
 -- the windows are written: how many, and what is lent afterwards
 pub record WriteWindows (ws proved : List ℕ) (W : ℕ) (old : List ℕ) (n : ℕ) (new : List ℕ) : Type 0 where
   pub count : n ≡ length (plan_of W ws proved)
   pub words : new ≡ sets old 0 (flat_pairs (plan_of W ws proved))
-
--- the answer where nothing but the room can be refused, and what is lent afterwards
-pub record PlanGiven (ws proved : List ℕ) (W : ℕ) (old : List ℕ) (r : Answer ℕ) (new : List ℕ) : Type 0 where
-  pub answer : r ≡ count_in (fitted (length old / 2) (plan_of W ws proved))
-  pub words : new ≡ written_in old (fitted (length old / 2) (plan_of W ws proved))

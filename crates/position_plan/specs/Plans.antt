@@ -1,15 +1,13 @@
 -- Plans for the refetch of missing rows: which plans the check accepts, and the plan that ours proposes. A plan is a list of windows, half-open
 -- intervals of rows; W is the most rows that the log service returns a call (02 §9.1). Definitions only. Assumes nothing.
-use Rattle.std.specs.Prelude.{ℕ, suc, ◌+◌, ◌-◌, ◌/◌, ◌≡◌, Bool, true, cond, ◌&&◌, List, [], ◌∷◌, length, leb, ltb, eqb}
+use Rattle.std.specs.Prelude.{ℕ, suc, ◌+◌, ◌-◌, ◌/◌, ◌≡◌, Bool, true, cond, ◌&&◌, List, [], ◌∷◌, length, leb, ltb, eqb, Ok, Err}
 use Rattle.std.proofs.lemmas.List.Edits.{sets}
 use Rattle.intervals.specs.Intervals.{Interval, holds}
-use Rattle.item_check.specs.Checks.{Answer, answered, refused, refused_as, Verdict, accepted, and_then}
+use Rattle.item_check.specs.Checks.{Answer, refused, Verdict, accepted, and_then}
 use Rattle.pairs_sort.specs.Pairs.{flat_pairs}
 use Rattle.position_given.specs.Given.{intervals_of, even_verdict, intervals_verdict, ascending_verdict}
 use Rattle.position_given.specs.Positions.{is_in}
 use Rattle.position_mismatch.specs.Reports.{missing}
-use Rattle.position_plan.specs.declared.Planned.{Planned}
-use Rattle.position_plan.specs.declared.Planned.TheVariants.{Windows, Refused}
 
 -- ---- the check. M has the missing rows
 
@@ -84,11 +82,11 @@ room_verdict room windows = cond (ltb room (length windows)) (refused 6 0 0) acc
 -- 02 §9.2, §9.9: a plan that is not accepted is answered no
 abbrev pub check_answer : List ℕ → List ℕ → ℕ → List ℕ → Answer Bool
 check_answer ws proved W windows =
-    and_then (check_verdict ws proved W windows) (answered (accepts W (missing (intervals_of ws) proved) (intervals_of windows)))
+    and_then (check_verdict ws proved W windows) (Ok (accepts W (missing (intervals_of ws) proved) (intervals_of windows)))
 
 -- 02 §9.9: the windows, where they have room
 abbrev pub fitted : ℕ → List Interval → Answer (List Interval)
-fitted room windows = and_then (room_verdict room windows) (answered windows)
+fitted room windows = and_then (room_verdict room windows) (Ok windows)
 
 -- 02 §9.7, §9.9: what our planner answers
 abbrev pub plan_answer : List ℕ → List ℕ → ℕ → ℕ → Answer (List Interval)
@@ -96,18 +94,13 @@ plan_answer ws proved W room = and_then (plan_verdict ws proved W) (fitted room 
 
 -- 02 §9.7: how many windows it has written
 abbrev pub count_in : Answer (List Interval) → Answer ℕ
-count_in (answered windows) = answered (length windows)
-count_in (refused_as r) = refused_as r
+count_in (Ok windows) = Ok (length windows)
+count_in (Err r) = Err r
 
 -- 02 §9.7, 01 refusal.5: what is lent has the windows as its first pairs; later words stay, and all of them where the call is refused
 abbrev pub written_in : List ℕ → Answer (List Interval) → List ℕ
-written_in old (answered windows) = sets old 0 (flat_pairs windows)
-written_in old (refused_as r) = old
-
--- 01 form.11: the paper's numbers and values for each case of the code's answer
-abbrev pub planned_of : Planned → Answer ℕ
-planned_of (Windows n) = answered n
-planned_of (Refused r) = refused_as r
+written_in old (Ok windows) = sets old 0 (flat_pairs windows)
+written_in old (Err r) = old
 
 -- 02 §9.7, §9.9: the answer of `plan_refetch`, and what it leaves in the words that are lent: old before, new after
 pub record PlanRefetch (ws proved : List ℕ) (W : ℕ) (old : List ℕ) (r : Answer ℕ) (new : List ℕ) : Type 0 where

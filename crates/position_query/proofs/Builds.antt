@@ -1,4 +1,5 @@
 -- The passes over items: the check of each, how many ranges there are, and the ranges written; a turn of each. Assumes nothing.
+use Rattle.std.specs.Prelude.{Ok, Err}
 use Prim.Native.Nat.{ℕ, zero, suc, ◌+◌, ◌-◌, ◌*◌, ◌/◌, ◌≤◌, ◌<◌, min}
 use mathlib.Core.Path.{◌≡◌, refl, sym, ap, ◌∙◌}
 use mathlib.Core.Bool.{cond}
@@ -12,7 +13,7 @@ use Rattle.intervals.specs.Intervals as interval
 use Rattle.intervals.proofs.Laws.{piece_some, piece_none, piece_one}
 use Rattle.query_item.specs.Items.{item_at, items_from}
 use Rattle.item_check.specs.declared.Refusal.{Refusal}
-use Rattle.item_check.specs.Checks.{Answer, answered, refused, refused_as, accepted, and_then, pool_verdict, shape_verdict, first_bad, items_of}
+use Rattle.item_check.specs.Checks.{Answer, refused, accepted, and_then, pool_verdict, shape_verdict, first_bad, items_of}
 use Rattle.item_check.proofs.Laws.{accepts, answers, items_end, items_more}
 use Rattle.pairs_sort.specs.Pairs.{pairs_from, pairs, put, pushes, Merged}
 use Rattle.pairs_sort.proofs.Laws.{pairs_length, push_length, push_pairs, push_kept}
@@ -166,9 +167,9 @@ module _ {pool : List ℕ} {count : ℕ} {ws old new : List ℕ} {n k i : ℕ} (
 -- ---- what is built
 
 -- pairs that are counted are canonical
-rows_canonical : (A : List Interval) (t : ℕ) → rows_answer A ≡ answered t → interval.Canonical A × (rows_of A ≡ t)
+rows_canonical : (A : List Interval) (t : ℕ) → rows_answer A ≡ Ok t → interval.Canonical A × (rows_of A ≡ t)
 rows_canonical A t e =
-    let both = answers (canonical_verdict A) (answered (rows_of A)) t e in
+    let both = answers (canonical_verdict A) (Ok (rows_of A)) t e in
     let is = both.1 in
     ((canonical_exactly A).0 both.0, cc)
 
@@ -184,7 +185,7 @@ module _ (pool ws : List ℕ) (count : ℕ) (old : List ℕ) where
   }
 
   pub build_whole : (k : ℕ) (mid new : List ℕ) (m : ℕ) (r : Answer (ℕ × ℕ)) → length whole ≤ length old / 2 → k ≡ length whole → length mid ≡ length old → Wrote whole old mid
-      → Merged (min k (length mid / 2)) mid new m → r ≡ answered (m, rows_of (pairs new m)) → Building pool ws count old new r
+      → Merged (min k (length mid / 2)) mid new m → r ≡ Ok (m, rows_of (pairs new m)) → Building pool ws count old new r
   build_whole k mid new m r h is-k size W M is-r =
       let n : min k (length mid / 2) ≡ length whole = omega arith in
       let R : Merged (length whole) mid new m = rw n at M in record {
@@ -200,21 +201,21 @@ module _ (pool ws : List ℕ) (count : ℕ) (old : List ℕ) where
 
   -- pairs that are canonical as they are written stay
   pub build_counted : (k : ℕ) (mid : List ℕ) (t : ℕ) → length whole ≤ length old / 2 → k ≡ length whole → length mid ≡ length old → Wrote whole old mid
-      → rows_answer (pairs mid k) ≡ answered t → Building pool ws count old mid (answered (k, t))
+      → rows_answer (pairs mid k) ≡ Ok t → Building pool ws count old mid (Ok (k, t))
   build_counted k mid t h is-k size W told =
       let n : min k (length mid / 2) ≡ k = omega arith in
       let C = rows_canonical (pairs mid k) t told in
-      build_whole k mid mid k (answered (k, t)) h is-k size W (rw n (record {
+      build_whole k mid mid k (Ok (k, t)) h is-k size W (rw n (record {
         canonical = C.0;
         holding = λ x. refl;
         freed = λ i l m. absurd (omega arith);
         later = refl;
-      })) (ap (λ (u : ℕ). answered (k, u)) (sym C.1))
+      })) (ap (λ (u : ℕ). Ok (k, u)) (sym C.1))
 
 -- ---- the whole call
 
-pub from_refused : (pool ws : List ℕ) (count : ℕ) (old : List ℕ) (r : Refusal) → query_verdict pool ws ≡ refused_as r
-    → FromQueryItems pool ws count old old (refused_as r)
+pub from_refused : (pool ws : List ℕ) (count : ℕ) (old : List ℕ) (r : Refusal) → query_verdict pool ws ≡ Err r
+    → FromQueryItems pool ws count old old (Err r)
 from_refused pool ws count old r e = record {
   verdict = rw e;
   written = λ m t h. impossible cc;

@@ -1,22 +1,30 @@
 -- The short check of an item says what the long one does: an item is clean exactly where its fault is 0, and one that is not, and breaks nothing
 -- of 1, 2 and 5, has a bad key. Assumes nothing.
-use Prim.Native.Nat.{ℕ, ◌+◌, ◌≤◌}
+use Prim.Native.Nat.{ℕ, zero, suc, ◌+◌, ◌≤◌}
+use Rattle.std.specs.Prelude.{Err}
+use Rattle.key_order.proofs.Impossible.{impossible}
+use Rattle.item_check.specs.declared.Refusal.{Refusal}
 use mathlib.Core.Path.{◌≡◌, refl, sym, ◌∙◌}
 use mathlib.Core.Bool.{Bool, true, false, not, ◌&&◌, ◌||◌, and-true, not-not, true≢false}
 use mathlib.Core.List.{List}
 use native.Mathlib.Omega.{arith}
 use lib.ListN.{length, drop, length-take, length-drop}
 use lib.Dec.{leb, ltb, eqb}
-use borrow.Author.Tests.{ltb-false, leb-true, le-leb, eqb-true, eq-eqb, ne_eqb, not-true}
+use borrow.Author.Tests.{ltb-false, leb-true, le-leb, eqb-true, eq-eqb, not-true}
 use Rattle.query_item.specs.declared.KeyAt.{KeyAt}
 use Rattle.query_item.specs.declared.ItemWords.{ItemWords}
 use Rattle.query_item.specs.Items.{bytes_of, absent}
-use Rattle.item_check.specs.Checks.{most_key, has_start, has_end, nonzero, key_out, item_fault}
+use Rattle.item_check.specs.Checks.{most_key, has_start, has_end, nonzero, key_out, item_fault, fault_at}
 use Rattle.key_order.proofs.Bools.{both_true}
 use Rattle.item_check.proofs.Laws.{both_false, fault_parts, Formed, formed_parts, zero_absent, absent_in, fault_by, keys_in}
 use Rattle.position_key.specs.Keys.{key_size}
 use Rattle.position_query.specs.Covered.{no_position, position_fault}
 use Rattle.position_query.specs.Inner.{is_good, is_clean}
+
+-- what is refused has a fault
+pub some_fault : (f side i : ℕ) (r : Refusal) → fault_at f side i ≡ Err r → f ≡ 0 → ⊥
+some_fault zero side i r e = λ z. impossible cc
+some_fault (suc f) side i r e = λ z. omega arith
 
 module _ (pool : List ℕ) where
   -- ---- one key
@@ -57,9 +65,6 @@ module _ (pool : List ℕ) where
         rw (fault_by pool it formed s.1 e.1, one.1, s.2, e.2)
 
     module _ (none : item_fault pool it ≡ 0) where
-      pub fault_wrapped : (it.wrapper ≡ 0 → ⊥) → position_fault pool it ≡ 5
-      fault_wrapped w = rw (none, ne_eqb it.wrapper 0 w)
-
       -- what is left to be wrong
       pub fault_key : it.wrapper ≡ 0 → is_clean pool it ≡ false → position_fault pool it ≡ 7
       fault_key w h =

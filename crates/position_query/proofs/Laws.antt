@@ -1,5 +1,6 @@
 -- Each law that a caller cites, in the order of specs/: which positions an item holds, that there is one answer, that no list of pairs that covers
 -- the same has fewer, and what the answer is. No contract cites this file. Assumes nothing.
+use Rattle.std.specs.Prelude.{Ok, Err}
 use Prim.Native.Nat.{ℕ, ◌/◌, ◌≤◌, ◌<◌}
 use mathlib.Core.Path.{◌≡◌, refl, sym, ap, ◌∙◌}
 use mathlib.Core.Bool.{false}
@@ -14,7 +15,7 @@ use Rattle.intervals.proofs.Laws.{canonical_unique, canonical_fewest_below, cove
 use Rattle.key_order.proofs.Words.{Bytes}
 use Rattle.query_item.specs.declared.ItemWords.{ItemWords}
 use Rattle.item_check.specs.declared.Refusal.{Refusal}
-use Rattle.item_check.specs.Checks.{Answer, answered, refused_as, accepted, and_then, pool_verdict, shape_verdict, first_bad, items_of}
+use Rattle.item_check.specs.Checks.{Answer, accepted, and_then, pool_verdict, shape_verdict, first_bad, items_of}
 use Rattle.item_check.proofs.Laws.{refused_apart, accepts}
 use Rattle.pairs_sort.specs.Pairs.{pairs}
 use Rattle.pairs_sort.proofs.Laws.{pairs_length}
@@ -33,29 +34,29 @@ pub past_never : (pool : List ℕ) (its : List ItemWords) (count p : ℕ) → co
 unfolding covered
 past_never pool its count p h = rw (le-ltb p count h)
 
-never : {X : Type 0} {a : Unit {0}} {r : Refusal} → answered a ≡ refused_as r → X
+never : {X : Type 0} {a : Unit {0}} {r : Refusal} → Ok a ≡ Err r → X
 never e = impossible cc
 
 module _ (pool ws : List ℕ) (count : ℕ) (old new new' : List ℕ) (l : length new ≡ length old) (l' : length new' ≡ length old) where
   -- any two answers that the promise of `from_query_items` allows are equal, and so are the words
   pub from_query_items_unique : (r r' : Answer (ℕ × ℕ)) → FromQueryItems pool ws count old new r
       → FromQueryItems pool ws count old new' r' → (r ≡ r') × (new ≡ new')
-  from_query_items_unique (answered a) (answered b) F G =
+  from_query_items_unique (Ok a) (Ok b) F G =
       let C = F.written a.0 a.1 refl in
       let D = G.written b.0 b.1 refl in
       let number = number_unique C.list D.list in
       let total = C.total ∙ ap rows_of (pairs_unique C.list D.list) ∙ sym D.total in
-      ((λ i. answered (number i, total i)), words_unique C.list D.list (l ∙ sym l'))
-  from_query_items_unique (answered m) (refused_as r) F G = never (F.verdict ∙ sym G.verdict)
-  from_query_items_unique (refused_as r) (answered m) F G = never (G.verdict ∙ sym F.verdict)
-  from_query_items_unique (refused_as r) (refused_as t) F G =
-      (ap refused_as (refused_apart r t (F.verdict ∙ sym G.verdict)), F.kept r refl ∙ sym (G.kept t refl))
+      ((λ i. Ok (number i, total i)), words_unique C.list D.list (l ∙ sym l'))
+  from_query_items_unique (Ok m) (Err r) F G = never (F.verdict ∙ sym G.verdict)
+  from_query_items_unique (Err r) (Ok m) F G = never (G.verdict ∙ sym F.verdict)
+  from_query_items_unique (Err r) (Err t) F G =
+      (ap Err (refused_apart r t (F.verdict ∙ sym G.verdict)), F.kept r refl ∙ sym (G.kept t refl))
 
 -- ---- the fewest pairs
 
 -- of an answer: m pairs, which cover t rows, stand at the front of the new words
 module _ (pool ws : List ℕ) (count : ℕ) (old new : List ℕ) (r : Answer (ℕ × ℕ)) (F : FromQueryItems pool ws count old new r)
-    (m t : ℕ) (is : r ≡ answered (m, t)) where
+    (m t : ℕ) (is : r ≡ Ok (m, t)) where
   -- 02 §14.1, reading B25: no list of half-open pairs that covers the same of the rows below the count, whatever it covers past them, has fewer
   -- pairs: in any order, overlapping or not, empty ones among them
   pub written_fewest : (B : List Interval) → ((p : ℕ) → p < count → interval.holds B p ≡ covered pool (items_of ws) count p) → m ≤ length B
@@ -91,7 +92,7 @@ module _ (pool ws : List ℕ) (count : ℕ) (B : Bytes pool) (few : count ≤ la
 
   module _ (old new : List ℕ) (r : Answer (ℕ × ℕ)) (F : FromQueryItems pool ws count old new r) where
     -- the pairs that are written are the computed ones, and the answer is how many, and how many rows they cover
-    pub written_pairs : (m t : ℕ) → r ≡ answered (m, t)
+    pub written_pairs : (m t : ℕ) → r ≡ Ok (m, t)
         → (m ≡ length (covered_pairs pool count (items_of ws))) × (pairs new m ≡ covered_pairs pool count (items_of ws))
         × (t ≡ rows_of (covered_pairs pool count (items_of ws)))
     written_pairs m t e =
@@ -102,13 +103,13 @@ module _ (pool ws : List ℕ) (count : ℕ) (B : Bytes pool) (few : count ≤ la
 
     -- with a pair of room for each nonempty range, accepted items are answered
     pub pairs_answered : query_verdict pool ws ≡ accepted → length (ranges pool count (items_of ws)) ≤ length old / 2
-        → r ≡ answered (length (covered_pairs pool count (items_of ws)), rows_of (covered_pairs pool count (items_of ws)))
+        → r ≡ Ok (length (covered_pairs pool count (items_of ws)), rows_of (covered_pairs pool count (items_of ws)))
     pairs_answered good room = go r refl
       where
         go : (u : Answer (ℕ × ℕ)) → r ≡ u
-            → u ≡ answered (length (covered_pairs pool count (items_of ws)), rows_of (covered_pairs pool count (items_of ws)))
-        go (answered a) e = let all = written_pairs a.0 a.1 e in λ i. answered (all.0 i, all.2 i)
-        go (refused_as r) e =
+            → u ≡ Ok (length (covered_pairs pool count (items_of ws)), rows_of (covered_pairs pool count (items_of ws)))
+        go (Ok a) e = let all = written_pairs a.0 a.1 e in λ i. Ok (all.0 i, all.2 i)
+        go (Err r) e =
             let needed = ranges_needed_lem pool B count few 0 (items_of ws) (no_fault pool ws good) in
             let fits : build_verdict pool ws count (length old) ≡ accepted =
             rw (good, ← needed, le-ltb (length old / 2) (length (ranges pool count (items_of ws))) room) in

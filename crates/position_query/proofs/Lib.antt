@@ -2,3 +2,4 @@ pub mod Laws
 pub mod Ranges
 pub mod Clean
 pub mod Builds
+pub mod Codes

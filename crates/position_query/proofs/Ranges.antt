@@ -1,5 +1,9 @@
 -- The ranges of position items: which positions an item with good keys holds, which items have a bad key, and what the nonempty clipped
 -- ranges of accepted items are. Assumes nothing.
+use Rattle.std.specs.Prelude.{Ok, Err}
+use Rattle.std.specs.Ordering.{is_eq}
+use Rattle.std.specs.declared.cmp.Ordering.TheVariants.{Less, Equal, Greater}
+use Rattle.std.specs.declared.cmp.Ordering.{Ordering}
 use Prim.Native.Nat.{ℕ, zero, suc, ◌+◌, ◌≤◌, ◌<◌, min}
 use mathlib.Core.Path.{◌≡◌, refl, sym, ◌∙◌}
 use mathlib.Core.Bool.{Bool, true, false, cond, not, ◌&&◌, ◌||◌, and-true, false≢true, and-or_distrib_left, and-false}
@@ -11,14 +15,13 @@ use lib.Seq.{get_or-take, get_or-drop}
 use lib.Dec.{leb, ltb, eqb}
 use borrow.Author.Tests.{lt-ltb, le-ltb, le-leb, lt-leb, eq-eqb, ne_eqb, eqb-true}
 use Rattle.key_order.proofs.Impossible.{impossible}
-use Rattle.key_order.specs.declared.Ordering.{Ordering}
-use Rattle.key_order.specs.declared.Ordering.TheVariants.{Less, Equal, Greater}
-use Rattle.key_order.specs.Order.{compare_keys, is_equal}
+use Rattle.key_order.specs.Order.{compare_keys}
 use Rattle.key_order.proofs.Numbers.{Says, says_less, says_at_most}
 use Rattle.intervals.specs.Intervals.{Interval, inside, piece}
 use Rattle.intervals.specs.Intervals as interval
 use Rattle.intervals.proofs.Members.{where_is, below, in_it, past, inside_below, inside_yes, inside_past}
 use Rattle.intervals.proofs.Laws.{piece_some, piece_none, holds_append, holds_piece}
+use Rattle.query_item.specs.declared.RangeSet.{RangeSet}
 use Rattle.query_item.specs.declared.KeyAt.{KeyAt}
 use Rattle.query_item.specs.declared.ItemWords.{ItemWords}
 use Rattle.query_item.specs.declared.QueryItem.{QueryItem}
@@ -26,14 +29,13 @@ use Rattle.query_item.specs.declared.QueryItem.TheVariants as item
 use Rattle.query_item.specs.Items.{bytes_of, same, at_most, holds, item_of, query_item}
 use Rattle.query_item.specs.Items as table
 use Rattle.query_item.specs.Boundaries.{to_range_set, range_of}
-use Rattle.item_check.specs.Checks.{Answer, answered, refused, refused_as, accepted, has_start, has_end, malformed, wrapped, item_fault, fault_at, first_bad}
-use Rattle.query_item.proofs.Laws.{each_code, each_item}
+use Rattle.item_check.specs.Checks.{Answer, refused, accepted, has_start, has_end, malformed, wrapped, item_fault, fault_at, first_bad}
+use Rattle.query_item.proofs.Laws.{each_code}
 use Rattle.item_check.proofs.Laws.{accepts, fault_passes, first_none, fault_parts, formed_parts}
 use Rattle.key_order.specs.Words.{be}
 use Rattle.position_key.specs.Keys.{key_size, position_key, position_answer}
 use Rattle.position_query.specs.Covered.{holds_position, some_holds, covered, no_position, bad_key, position_fault, any_below, ranges_needed}
 use Rattle.position_given.specs.Inner.{last_word}
-use Rattle.position_query.specs.Inner.{first_by, past_by}
 use Rattle.position_query.specs.Ranges.{after_of, first_of, past_of, both_of, range_answer, clip_to, clipped, ranges}
 use Rattle.key_order.proofs.Words.{Bytes, be_says}
 use Rattle.position_key.proofs.Keys.{bytes_length, bytes_small, be_position}
@@ -49,43 +51,43 @@ bytes_part pool k b = record {
 }
 
 -- what an answer says of a key
-position_is : (k : List ℕ) (s : ℕ) → position_answer k ≡ answered s → (length k ≡ key_size) × (be k ≡ s)
+position_is : (k : List ℕ) (s : ℕ) → position_answer k ≡ Ok s → (length k ≡ key_size) × (be k ≡ s)
 position_is k s e = go (eqb (length k) key_size) refl e
   where
-    go : (t : Bool) → eqb (length k) key_size ≡ t → cond t (answered (be k)) (refused 7 0 0) ≡ answered s → (length k ≡ key_size) × (be k ≡ s)
+    go : (t : Bool) → eqb (length k) key_size ≡ t → cond t (Ok (be k)) (refused 7 0 0) ≡ Ok s → (length k ≡ key_size) × (be k ≡ s)
     go true p q = (eqb-true (length k) key_size p, cc)
     go false p q = impossible cc
 
-after_is : (a : Answer ℕ) (s : ℕ) → after_of a ≡ answered s → (p : ℕ) → a ≡ answered p → s ≡ min (p + 1) last_word
-after_is (answered q) s e p h = let u : min (q + 1) last_word ≡ s = cc in let v : q ≡ p = cc in omega arith
-after_is (refused_as r) s e p h = impossible cc
+after_is : (a : Answer ℕ) (s : ℕ) → after_of a ≡ Ok s → (p : ℕ) → a ≡ Ok p → s ≡ min (p + 1) last_word
+after_is (Ok q) s e p h = let u : min (q + 1) last_word ≡ s = cc in let v : q ≡ p = cc in omega arith
+after_is (Err r) s e p h = impossible cc
 
-after_some : (a : Answer ℕ) (s : ℕ) → after_of a ≡ answered s → (p : ℕ) × (a ≡ answered p)
-after_some (answered q) s e = (q, refl)
-after_some (refused_as r) s e = impossible cc
+after_some : (a : Answer ℕ) (s : ℕ) → after_of a ≡ Ok s → (p : ℕ) × (a ≡ Ok p)
+after_some (Ok q) s e = (q, refl)
+after_some (Err r) s e = impossible cc
 
 -- ---- a key and the key of a position stand as their numbers do
 
-says_equal : (o : Ordering) (m n : ℕ) → Says o m n → is_equal o ≡ eqb m n
+says_equal : (o : Ordering) (m n : ℕ) → Says o m n → is_eq o ≡ eqb m n
 says_equal Less m n h = sym (ne_eqb m n (λ e. omega arith))
 says_equal Equal m n h = sym (eq-eqb m n h)
 says_equal Greater m n h = sym (ne_eqb m n (λ e. omega arith))
 
 module _ (k : List ℕ) (b : Bytes k) (p : ℕ) (l : p < last_word) where
-  position_says : (s : ℕ) → position_answer k ≡ answered s → Says (compare_keys k (position_key p)) s p
+  position_says : (s : ℕ) → position_answer k ≡ Ok s → Says (compare_keys k (position_key p)) s p
   position_says s e =
       let is = position_is k s e in
       rw (is.1, be_position p (omega arith)) at (be_says k (position_key p) (is.0 ∙ sym (bytes_length key_size p)) b (bytes_small key_size p))
 
-  says_position : (s : ℕ) → position_answer k ≡ answered s → Says (compare_keys (position_key p) k) p s
+  says_position : (s : ℕ) → position_answer k ≡ Ok s → Says (compare_keys (position_key p) k) p s
   says_position s e =
       let is = position_is k s e in
       rw (is.1, be_position p (omega arith)) at (be_says (position_key p) k (bytes_length key_size p ∙ sym is.0) (bytes_small key_size p) b)
 
-  from_key : (s : ℕ) → position_answer k ≡ answered s → at_most k (position_key p) ≡ leb s p
+  from_key : (s : ℕ) → position_answer k ≡ Ok s → at_most k (position_key p) ≡ leb s p
   from_key s e = says_at_most (compare_keys k (position_key p)) s p (position_says s e)
 
-  after_key_lem : (s : ℕ) → after_of (position_answer k) ≡ answered s → table.below k (position_key p) ≡ leb s p
+  after_key_lem : (s : ℕ) → after_of (position_answer k) ≡ Ok s → table.below k (position_key p) ≡ leb s p
   after_key_lem s e =
       let q = after_some (position_answer k) s e in
       let is = after_is (position_answer k) s e q.0 q.1 in
@@ -94,10 +96,10 @@ module _ (k : List ℕ) (b : Bytes k) (p : ℕ) (l : p < last_word) where
         | no h ↦ le-ltb q.0 p (omega arith) ∙ sym (lt-leb s p (omega arith))
       ]
 
-  to_key : (e : ℕ) → position_answer k ≡ answered e → table.below (position_key p) k ≡ ltb p e
+  to_key : (e : ℕ) → position_answer k ≡ Ok e → table.below (position_key p) k ≡ ltb p e
   to_key e h = says_less (compare_keys (position_key p) k) p e (says_position e h)
 
-  through_key : (e : ℕ) → after_of (position_answer k) ≡ answered e → at_most (position_key p) k ≡ ltb p e
+  through_key : (e : ℕ) → after_of (position_answer k) ≡ Ok e → at_most (position_key p) k ≡ ltb p e
   through_key e h =
       let q = after_some (position_answer k) e h in
       let is = after_is (position_answer k) e h q.0 q.1 in
@@ -106,7 +108,7 @@ module _ (k : List ℕ) (b : Bytes k) (p : ℕ) (l : p < last_word) where
         | no u ↦ le-leb p q.0 (omega arith) ∙ sym (lt-ltb p e (omega arith))
       ]
 
-  at_key : (s e : ℕ) → position_answer k ≡ answered s → after_of (position_answer k) ≡ answered e → same (position_key p) k ≡ leb s p && ltb p e
+  at_key : (s e : ℕ) → position_answer k ≡ Ok s → after_of (position_answer k) ≡ Ok e → same (position_key p) k ≡ leb s p && ltb p e
   at_key s e g h =
       let is = after_is (position_answer k) e h s g in
       says_equal (compare_keys (position_key p) k) p s (says_position s g) ∙ elim (ℕ_discrete p s) [
@@ -120,8 +122,8 @@ module _ (k : List ℕ) (b : Bytes k) (p : ℕ) (l : p < last_word) where
       ]
 
 -- an item with good keys holds the positions of its range
-pub item_held : (pool : List ℕ) → Bytes pool → (q : QueryItem) (s e p : ℕ) → first_of pool (to_range_set q).start ≡ answered s
-    → past_of pool (to_range_set q).end ≡ answered e → p < last_word → holds pool q (position_key p) ≡ inside s e p
+pub item_held : (pool : List ℕ) → Bytes pool → (q : QueryItem) (s e p : ℕ) → first_of pool (to_range_set q).start ≡ Ok s
+    → past_of pool (to_range_set q).end ≡ Ok e → p < last_word → holds pool q (position_key p) ≡ inside s e p
 unfolding inside
 item_held pool B (item.Key a) s e p f t l = at_key (bytes_of pool a) (bytes_part pool a B) p l s e f t
 item_held pool B (item.Range a b) s e p f t l =
@@ -146,22 +148,22 @@ item_held pool B (item.RangeAfterToInclusive a b) s e p f t l =
 -- ---- bad keys
 
 abbrev is_refused : {A : Type 0} → Answer A → Bool
-is_refused (answered a) = false
-is_refused (refused_as r) = true
+is_refused (Ok a) = false
+is_refused (Err r) = true
 
 refused_both : (x y : Answer ℕ) → is_refused (both_of x y) ≡ is_refused x || is_refused y
-refused_both (answered s) (answered e) = refl
-refused_both (answered s) (refused_as r) = refl
-refused_both (refused_as r) y = refl
+refused_both (Ok s) (Ok e) = refl
+refused_both (Ok s) (Err r) = refl
+refused_both (Err r) y = refl
 
 refused_after : (x : Answer ℕ) → is_refused (after_of x) ≡ is_refused x
-refused_after (answered s) = refl
-refused_after (refused_as r) = refl
+refused_after (Ok s) = refl
+refused_after (Err r) = refl
 
 refused_key : (k : List ℕ) → is_refused (position_answer k) ≡ not (eqb (length k) key_size)
 refused_key k = go (eqb (length k) key_size)
   where
-    go : (t : Bool) → is_refused (cond t (answered (be k)) (refused 7 0 0)) ≡ not t
+    go : (t : Bool) → is_refused (cond t (Ok (be k)) (refused 7 0 0)) ≡ not t
     go true = refl
     go false = refl
 
@@ -184,10 +186,10 @@ module _ (pool : List ℕ) (a b : KeyAt) where
       (sym (refused_both x y ∙ rw (A, B)))
       (sym (refused_both x (after_of y) ∙ rw (refused_after y, A, B)))
       refl
-      (sym (refused_both x (answered last_word) ∙ rw A))
-      (sym (refused_both (answered 0) y ∙ rw B))
-      (sym (refused_both (answered 0) (after_of y) ∙ rw (refused_after y, B)))
-      (sym (refused_both (after_of x) (answered last_word) ∙ rw (refused_after x, A)))
+      (sym (refused_both x (Ok last_word) ∙ rw A))
+      (sym (refused_both (Ok 0) y ∙ rw B))
+      (sym (refused_both (Ok 0) (after_of y) ∙ rw (refused_after y, B)))
+      (sym (refused_both (after_of x) (Ok last_word) ∙ rw (refused_after x, A)))
       (sym (refused_both (after_of x) y ∙ rw (refused_after x, A, B)))
       (sym (refused_both (after_of x) (after_of y) ∙ rw (refused_after x, refused_after y, A, B)))
 
@@ -206,33 +208,18 @@ clean pool it h =
     go false true e = absurd (omega arith)
     go false false e = refl
 
--- ---- an item's range by its code
+-- ---- an item's range
 
-module _ (pool : List ℕ) (a b : KeyAt) where
-  code_first : (c : ℕ) → first_of pool (to_range_set (item_of c a b)).start ≡ first_by c (position_answer (bytes_of pool a))
-  code_first =
-      each_item a b (λ c q. first_of pool (to_range_set q).start ≡ first_by c (position_answer (bytes_of pool a)))
-      refl refl refl refl refl refl refl refl refl refl (λ c h. sym (rw (lt-ltb 9 c h)))
-
-  code_past : (c : ℕ) → past_of pool (to_range_set (item_of c a b)).end ≡ past_by c (position_answer (bytes_of pool a)) (position_answer (bytes_of pool b))
-  code_past =
-      each_item a b (λ c q. past_of pool (to_range_set q).end ≡ past_by c (position_answer (bytes_of pool a)) (position_answer (bytes_of pool b)))
-      refl refl refl refl refl refl refl refl refl refl (λ c h. sym (rw (lt-ltb 9 c h)))
-
-pub clipped_by : (pool : List ℕ) (count : ℕ) (it : ItemWords) (x y : Answer ℕ) → x ≡ first_by it.code (position_answer (bytes_of pool it.start))
-    → y ≡ past_by it.code (position_answer (bytes_of pool it.start)) (position_answer (bytes_of pool it.end))
+pub clipped_of : (pool : List ℕ) (count : ℕ) (it : ItemWords) (set : RangeSet) (x y : Answer ℕ) → set ≡ range_of it → x ≡ first_of pool set.start → y ≡ past_of pool set.end
     → clipped pool count it ≡ clip_to count (both_of x y)
-clipped_by pool count it x y p q =
-    let first : first_of pool (range_of it).start ≡ x = code_first pool it.start it.end it.code ∙ sym p in
-    let past : past_of pool (range_of it).end ≡ y = code_past pool it.start it.end it.code ∙ sym q in
-    λ i. clip_to count (both_of (first i) (past i))
+clipped_of pool count it set x y is p q = rw (← is, p, q)
 
 -- ---- an item's clipped range
 
-parts : (x y : Answer ℕ) → is_refused (both_of x y) ≡ false → (s : ℕ) × (e : ℕ) × (x ≡ answered s) × (y ≡ answered e)
-parts (answered s) (answered e) h = (s, e, refl, refl)
-parts (answered s) (refused_as r) h = absurd (false≢true (sym h))
-parts (refused_as r) y h = absurd (false≢true (sym h))
+parts : (x y : Answer ℕ) → is_refused (both_of x y) ≡ false → (s : ℕ) × (e : ℕ) × (x ≡ Ok s) × (y ≡ Ok e)
+parts (Ok s) (Ok e) h = (s, e, refl, refl)
+parts (Ok s) (Err r) h = absurd (false≢true (sym h))
+parts (Err r) y h = absurd (false≢true (sym h))
 
 any_inside : (f : ℕ → Bool) (s e n : ℕ) → ((p : ℕ) → p < n → f p ≡ inside s e p) → any_below f n ≡ ltb s (min e n)
 unfolding any_below
@@ -244,11 +231,11 @@ any_inside f s e (suc n) h = rw (h n (omega arith), any_inside f s e n (λ p l. 
 ])
 
 module _ (pool : List ℕ) (B : Bytes pool) (count : ℕ) (few : count ≤ last_word) where
-  clip_both : (x y : Answer ℕ) (s e : ℕ) → x ≡ answered s → y ≡ answered e → clip_to count (both_of x y) ≡ (s, min e count)
+  clip_both : (x y : Answer ℕ) (s e : ℕ) → x ≡ Ok s → y ≡ Ok e → clip_to count (both_of x y) ≡ (s, min e count)
   clip_both x y s e p q = rw (p, q)
 
   module _ (it : ItemWords) (good : position_fault pool it ≡ 0) where
-    found : (s : ℕ) × (e : ℕ) × (first_of pool (range_of it).start ≡ answered s) × (past_of pool (range_of it).end ≡ answered e)
+    found : (s : ℕ) × (e : ℕ) × (first_of pool (range_of it).start ≡ Ok s) × (past_of pool (range_of it).end ≡ Ok e)
     found = parts (first_of pool (range_of it).start) (past_of pool (range_of it).end) (sym (bad_range pool it (clean pool it good).0) ∙ (clean pool it good).1)
 
     clipped_is : clipped pool count it ≡ (found.0, min found.1 count)

@@ -1,11 +1,11 @@
 -- The positions that query items cover, the checks of position items, and the promise of `from_query_items`. Definitions only.
 -- Assumes nothing.
-use Rattle.std.specs.Prelude.{ℕ, zero, suc, ◌/◌, ◌≡◌, List, [], ◌∷◌, Bool, false, cond, not, ◌&&◌, ◌||◌, length, ltb, eqb}
+use Rattle.std.specs.Prelude.{ℕ, zero, suc, ◌/◌, ◌≡◌, List, [], ◌∷◌, Bool, false, cond, not, ◌&&◌, ◌||◌, length, ltb, eqb, Ok, Err}
 use Rattle.query_item.specs.declared.KeyAt.{KeyAt}
 use Rattle.query_item.specs.declared.ItemWords.{ItemWords}
 use Rattle.query_item.specs.Items.{bytes_of, query_item, holds}
 use Rattle.item_check.specs.declared.Refusal.{Refusal}
-use Rattle.item_check.specs.Checks.{Answer, answered, refused, refused_as, Verdict, accepted, and_then, has_start, has_end, wrapped, first_fault, item_fault, pool_verdict, shape_verdict, first_bad, items_of}
+use Rattle.item_check.specs.Checks.{Answer, refused, Verdict, accepted, and_then, has_start, has_end, wrapped, first_fault, item_fault, pool_verdict, shape_verdict, first_bad, items_of}
 use Rattle.pairs_sort.specs.Pairs.{pairs, CanonicalPairs}
 use Rattle.position_given.specs.Positions.{rows_of}
 use Rattle.position_key.specs.Keys.{key_size, position_key}
@@ -71,15 +71,15 @@ pub record Covers (f : ℕ → Bool) (needed : ℕ) (old new : List ℕ) (m rows
 
 -- 01 form.11: whether a call answers, or why not
 abbrev pub as_verdict : {A : Type 0} → Answer A → Verdict
-as_verdict (answered a) = accepted
-as_verdict (refused_as r) = refused_as r
+as_verdict (Ok a) = accepted
+as_verdict (Err r) = Err r
 
 -- 01 demand.1, m6.5: refused exactly as the checks say; pairs written where it is not, and their number and total answered; reading A1: nothing
 -- written where it is
 pub record Builds (checks : Verdict) (f : ℕ → Bool) (needed : ℕ) (old new : List ℕ) (r : Answer (ℕ × ℕ)) : Type 0 where
   pub verdict : as_verdict r ≡ checks
-  pub written : (m rows : ℕ) → r ≡ answered (m, rows) → Covers f needed old new m rows
-  pub kept : (no : Refusal) → r ≡ refused_as no → new ≡ old
+  pub written : (m rows : ℕ) → r ≡ Ok (m, rows) → Covers f needed old new m rows
+  pub kept : (no : Refusal) → r ≡ Err no → new ≡ old
 
 -- 01 m6.3, m6.5: the pairs of the covered positions, for every number: u64::MAX is below no count
 abbrev pub FromQueryItems : List ℕ → List ℕ → ℕ → List ℕ → List ℕ → Answer (ℕ × ℕ) → Type 0

@@ -1,16 +1,15 @@
--- What private functions require and promise: items that nothing is wrong with, their ranges by their codes, and building. No public call is
+-- What private functions require and promise: items that nothing is wrong with, their ranges, and building. No public call is
 -- promised by these. Definitions only. It serves 01 m6.1, m6.3, m6.4. Assumes nothing.
-use Rattle.std.specs.Prelude.{ℕ, ◌*◌, ◌≤◌, ◌≡◌, Bool, cond, not, ◌&&◌, ◌||◌, List, length, drop, leb, ltb, eqb}
+use Rattle.std.specs.Prelude.{ℕ, ◌*◌, ◌≤◌, ◌≡◌, Bool, cond, not, ◌&&◌, List, length, drop, leb, eqb}
 use Rattle.intervals.specs.Intervals.{Interval, holds}
 use Rattle.query_item.specs.declared.KeyAt.{KeyAt}
 use Rattle.query_item.specs.declared.ItemWords.{ItemWords}
-use Rattle.item_check.specs.Checks.{Answer, answered, has_start, has_end, nonzero, key_out, items_of}
+use Rattle.item_check.specs.Checks.{Answer, has_start, has_end, nonzero, key_out, items_of}
 use Rattle.pairs_sort.specs.Pairs.{pairs}
-use Rattle.position_given.specs.Inner.{last_word}
 use Rattle.position_key.specs.Keys.{key_size}
 use Rattle.position_query.specs.declared.query.PositionRange.{PositionRange}
 use Rattle.position_query.specs.Covered.{room_verdict, Builds}
-use Rattle.position_query.specs.Ranges.{after_of, ranges}
+use Rattle.position_query.specs.Ranges.{ranges}
 
 -- ---- items that nothing is wrong with
 
@@ -22,16 +21,7 @@ abbrev pub is_clean : List ℕ → ItemWords → Bool
 is_clean pool it =
     leb it.code 9 && eqb it.wrapper 0 && is_good pool (has_start it.code) it.start && is_good pool (has_end it.code) it.end
 
--- ---- the range of an item by its code, and what its two keys are as positions
-
-abbrev pub first_by : ℕ → Answer ℕ → Answer ℕ
-first_by c a = cond (ltb 9 c || not (has_start c)) (answered 0) (cond (ltb c 7) a (after_of a))
-
-abbrev pub past_by : ℕ → Answer ℕ → Answer ℕ → Answer ℕ
-past_by c a b =
-    cond (ltb 9 c || eqb c 3 || eqb c 4 || eqb c 7) (answered last_word)
-    (cond (eqb c 0) (after_of a)
-    (cond (eqb c 2 || eqb c 6 || eqb c 9) (after_of b) b))
+-- ---- the range of an item
 
 abbrev pub range_pair : PositionRange → Interval
 range_pair r = (r.start, r.end)

@@ -1,3 +1,4 @@
 pub mod Covered
 pub mod Ranges
 pub mod Inner
+pub mod Codes

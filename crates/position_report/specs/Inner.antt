@@ -1,16 +1,11 @@
 -- What private and inner functions promise: reports that grow. No public call is promised by these. Definitions only.
 -- It serves 01 m6.10, m6.11. Assumes nothing.
-use Rattle.std.specs.Prelude.{ℕ, ◌+◌, ◌-◌, min, List}
+use Rattle.std.specs.Prelude.{ℕ, ◌+◌, ◌-◌, min}
 use Rattle.std.proofs.lemmas.List.Edits.{sets}
 use Rattle.position_given.specs.Positions.{count_up}
 use Rattle.position_given.specs.Inner.{last_word}
 use Rattle.position_report.specs.declared.PositionMismatch.{PositionMismatch}
-use Rattle.position_report.specs.declared.Counted.{Counted}
 use Rattle.position_report.specs.Reports.{most_reported, report_at}
-
--- a report whose examples are lent
-abbrev pub report_with : Counted → List ℕ → PositionMismatch
-report_with c examples = report_at c.total c.count examples
 
 -- a report with a run of positions added, width of them from `from` on: as many examples as there are places
 unfoldable pub with_run : PositionMismatch → ℕ → ℕ → PositionMismatch

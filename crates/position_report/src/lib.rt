@@ -10,10 +10,10 @@ ghost use Rattle.std.specs.Prelude.{◌≡◌, [], ◌+◌, ◌-◌, ◌≤◌, 
 ghost use Rattle.std.proofs.lemmas.List.Edits.{sets};
 ghost use Rattle.position_given.specs.Positions.{count_up};
 ghost use Rattle.position_given.specs.Inner.{last_word};
-ghost use Rattle.position_report.specs.Reports.{most_reported, report_at, report_of};
-ghost use Rattle.position_report.specs.Inner.{report_with, with_run};
+ghost use Rattle.position_report.specs.Reports.{most_reported, report_of};
+ghost use Rattle.position_report.specs.Inner.{with_run};
 
-use position_given::{RowCount, saturating_add, smaller};
+use position_given::RowCount;
 
 // How many positions are off, and the smallest of them: the first count places of examples. Unused places are 0.
 #[derive(Clone, Copy)]
@@ -21,13 +21,6 @@ pub struct PositionMismatch {
     pub total: RowCount,
     pub count: usize,
     pub examples: [u64; PositionMismatch::MAX_REPORTED_POSITIONS],
-}
-
-// inner: a report but for its examples, which are lent beside it.
-#[derive(Clone, Copy)]
-pub struct Counted {
-    pub total: u64,
-    pub count: usize,
 }
 
 impl PositionMismatch {
@@ -44,51 +37,26 @@ impl PositionMismatch {
             examples: [0; PositionMismatch::MAX_REPORTED_POSITIONS],
         }
     }
-}
 
-// inner: adds the positions from `from` on, below `to`.
-pub fn push_run(
-    examples: &mut [u64; PositionMismatch::MAX_REPORTED_POSITIONS],
-    total: u64,
-    count: usize,
-    from: u64,
-    to: u64,
-) -> Counted
-    ensures { report_with result examples.new ≡ with_run (report_at total count examples.old) from (to - from) }
-{
-    if to <= from {
-        return Counted { total, count };
+    // inner: adds the positions from `from` on, below `to`.
+    pub fn push_run(&mut self, from: u64, to: u64)
+        ensures { self.new ≡ with_run self.old from (to - from) }
+    {
+        let total = self.total.0;
+        if from < to {
+            let shown = show_run(&mut self.examples, self.count, from, to - from);
+            self.total = RowCount(total.saturating_add(to - from));
+            self.count += shown as usize;
+        }
     }
-    add_run(examples, total, count, from, to - from)
-}
 
-// inner: adds one position, which may be the last u64.
-pub fn push_one(
-    examples: &mut [u64; PositionMismatch::MAX_REPORTED_POSITIONS],
-    total: u64,
-    count: usize,
-    p: u64,
-) -> Counted
-    ensures { report_with result examples.new ≡ with_run (report_at total count examples.old) p 1 }
-{
-    add_run(examples, total, count, p, 1)
-}
-
-// Adds a run of positions: to the total, and to the examples while there are places.
-fn add_run(
-    examples: &mut [u64; PositionMismatch::MAX_REPORTED_POSITIONS],
-    total: u64,
-    count: usize,
-    from: u64,
-    width: u64,
-) -> Counted
-    requires { from + width ≤ last_word + 1 }
-    ensures { report_with result examples.new ≡ with_run (report_at total count examples.old) from width }
-{
-    let shown = show_run(examples, count, from, width);
-    Counted {
-        total: saturating_add(total, width),
-        count: count + shown as usize,
+    // inner: adds one position, which may be the last u64.
+    pub fn push_one(&mut self, p: u64)
+        ensures { self.new ≡ with_run self.old p 1 }
+    {
+        let shown = show_run(&mut self.examples, self.count, p, 1);
+        self.total = RowCount(self.total.0.saturating_add(1));
+        self.count += shown as usize;
     }
 }
 
@@ -103,14 +71,10 @@ fn show_run(
     ensures value { result ≡ min (most_reported - n) width }
     ensures examples_after { examples.new ≡ sets examples.old n (count_up from (min (most_reported - n) width)) }
 {
-    if n >= PositionMismatch::MAX_REPORTED_POSITIONS {
-        return 0;
-    }
-    let shown = smaller((PositionMismatch::MAX_REPORTED_POSITIONS - n) as u64, width);
-    let mut k: u64 = 0;
-    while k < shown {
+    let places = PositionMismatch::MAX_REPORTED_POSITIONS.saturating_sub(n);
+    let shown = width.min(places as u64);
+    for k in 0..shown {
         examples[n + k as usize] = from + k;
-        k += 1;
     }
     shown
 }

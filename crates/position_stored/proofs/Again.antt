@@ -1,5 +1,6 @@
 -- What an answered change leaves: the list that is to stand there, laid in the words, which is a stored list again with the answer's numbers.
 -- Assumes nothing.
+use Rattle.std.specs.Prelude.{Ok, Err}
 use Prim.Native.Nat.{ℕ, ◌-◌, ◌*◌, ◌/◌, ◌≤◌, max}
 use mathlib.Core.Path.{◌≡◌, refl, sym, ap}
 use mathlib.Core.Bool.{Bool, true, false, cond}
@@ -10,7 +11,7 @@ use lib.ListN.{length, drop, replicate, length-append, length-replicate, length-
 use borrow.Author.Tests.{le-ltb, ltb-false}
 use Rattle.key_order.proofs.Impossible.{impossible}
 use Rattle.intervals.specs.Intervals.{Interval, Canonical}
-use Rattle.item_check.specs.Checks.{Answer, answered, refused, refused_as, Verdict, and_then, words_by}
+use Rattle.item_check.specs.Checks.{Answer, refused, Verdict, and_then, words_by}
 use Rattle.pairs_sort.specs.Pairs.{pairs, flat_pairs}
 use Rattle.pairs_sort.proofs.Laws.{pairs_flat_front, length_flat}
 use Rattle.position_given.specs.Positions.{rows_of}
@@ -55,12 +56,12 @@ pub record Changed (ws : List ℕ) (count total : ℕ) (A : List Interval) (n m 
   pub number : n ≡ length A
   pub rows : m ≡ rows_of A
 
-pub changed : (ws : List ℕ) (count total : ℕ) (A : List Interval) (n m : ℕ) → change_answer ws count total A ≡ answered (n, m)
+pub changed : (ws : List ℕ) (count total : ℕ) (A : List Interval) (n m : ℕ) → change_answer ws count total A ≡ Ok (n, m)
     → Changed ws count total A n m (change_words ws count total A)
 changed ws count total A n m h = first (stored_verdict ws count total) refl h
   where
-    second : (t : Bool) → ltb (length ws / 2) (length A) ≡ t → StoredList ws count total → cond {A = Answer (ℕ × ℕ)} t (refused 6 0 0) (answered (length A, rows_of A)) ≡ answered (n, m)
-        → Changed ws count total A n m (words_by (cond {A = Answer (ℕ × ℕ)} t (refused 6 0 0) (answered (length A, rows_of A))) ws (laid ws count A))
+    second : (t : Bool) → ltb (length ws / 2) (length A) ≡ t → StoredList ws count total → cond {A = Answer (ℕ × ℕ)} t (refused 6 0 0) (Ok (length A, rows_of A)) ≡ Ok (n, m)
+        → Changed ws count total A n m (words_by (cond {A = Answer (ℕ × ℕ)} t (refused 6 0 0) (Ok (length A, rows_of A))) ws (laid ws count A))
     second true e S q = impossible cc
     second false e S q =
         let p : ◌≡◌ {A = ℕ × ℕ} (length A, rows_of A) (n, m) = cc in record {
@@ -71,10 +72,10 @@ changed ws count total A n m h = first (stored_verdict ws count total) refl h
           rows = sym (ap (λ (u : ℕ × ℕ). u.1) p);
         }
 
-    first : (v : Verdict) → stored_verdict ws count total ≡ v → and_then v (list_answer ws A) ≡ answered (n, m)
+    first : (v : Verdict) → stored_verdict ws count total ≡ v → and_then v (list_answer ws A) ≡ Ok (n, m)
         → Changed ws count total A n m (words_by (and_then v (list_answer ws A)) ws (laid ws count A))
-    first (answered tt) e q = second (ltb (length ws / 2) (length A)) refl (stored ws count total e) q
-    first (refused_as r) e q = impossible cc
+    first (Ok tt) e q = second (ltb (length ws / 2) (length A)) refl (stored ws count total e) q
+    first (Err r) e q = impossible cc
 
 module _ {ws : List ℕ} {count total : ℕ} {A : List Interval} {n m : ℕ} {vs : List ℕ} (C : Changed ws count total A n m vs) where
   -- the pairs that stand there then
@@ -90,11 +91,11 @@ module _ {ws : List ℕ} {count total : ℕ} {A : List Interval} {n m : ℕ} {vs
 
 -- a stored list with room for what it becomes is answered
 pub change_answered : (ws : List ℕ) (count total : ℕ) (A : List Interval) → StoredList ws count total → length A ≤ length ws / 2
-    → change_answer ws count total A ≡ answered (length A, rows_of A)
+    → change_answer ws count total A ≡ Ok (length A, rows_of A)
 change_answered ws count total A S h = rw (stored_accepts ws count total S, le-ltb (length ws / 2) (length A) h)
 
 -- one that becomes what it is stays, every word
 pub change_same : (ws : List ℕ) (count total : ℕ) (A : List Interval) → StoredList ws count total → A ≡ pairs ws count
-    → (change_answer ws count total A ≡ answered (count, total)) × (change_words ws count total A ≡ ws)
+    → (change_answer ws count total A ≡ Ok (count, total)) × (change_words ws count total A ≡ ws)
 change_same ws count total A S is =
-    (rw (stored_accepts ws count total S) (sym (same_answer ws count total S A is)), rw (stored_accepts ws count total S) (sym (same_words ws count total S A is)))
+    (sym (same_answer S A is), sym (same_words S A is))

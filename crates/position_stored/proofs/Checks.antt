@@ -1,4 +1,5 @@
 -- The checks of a stored list: the front of the buffer as intervals, and what an accepted list is. Assumes nothing.
+use Rattle.std.specs.Prelude.{Result, Ok, Err}
 use Prim.Native.Nat.{ℕ, ◌*◌, ◌/◌, ◌≤◌, ◌<◌}
 use mathlib.Core.Path.{◌≡◌, refl, sym, ap, ◌∙◌}
 use mathlib.Core.Bool.{Bool, true, false, cond}
@@ -8,9 +9,7 @@ use lib.Dec.{ltb, eqb}
 use lib.ListN.{length, take}
 use borrow.Author.Tests.{lt-ltb, le-ltb, eq-eqb, eqb-true, ltb-false}
 use Rattle.item_check.specs.declared.Refusal.{Refusal}
-use Rattle.item_check.specs.declared.Checked.{Checked}
-use Rattle.item_check.specs.declared.Checked.TheVariants.{Accepted}
-use Rattle.item_check.specs.Checks.{answered, refused, refused_as, Verdict, accepted, and_then, verdict_of}
+use Rattle.item_check.specs.Checks.{refused, Verdict, accepted, and_then}
 use Rattle.item_check.proofs.Laws.{accepts}
 use Rattle.pairs_sort.specs.Pairs.{pairs}
 use Rattle.position_given.specs.Given.{canonical_verdict, intervals_of}
@@ -20,7 +19,7 @@ use Rattle.position_given.proofs.Accepted.{never_accepted, canonical_accepted, c
 use Rattle.position_given.proofs.Counting.{rows_refused, rows_counted}
 use Rattle.position_given.proofs.Fronts.{front_pairs}
 use Rattle.position_stored.specs.Stored.{count_verdict, total_verdict, stored_verdict}
-use Rattle.position_stored.specs.Inner.{StoredList}
+use Rattle.position_stored.specs.Inner.{StoredList, Place}
 
 module _ (ws : List ℕ) (count : ℕ) (h : count ≤ length ws / 2) where
   passed : count_verdict ws count ≡ accepted
@@ -30,10 +29,10 @@ module _ (ws : List ℕ) (count : ℕ) (h : count ≤ length ws / 2) where
   front_counted : rows_answer (intervals_of (take (2 * count) ws)) ≡ rows_answer (pairs ws count)
   front_counted = ap rows_answer (front_pairs ws count (omega arith))
 
-  pub stored_refused : (total : ℕ) (r : Refusal) → refused_as r ≡ rows_answer (intervals_of (take (2 * count) ws)) → refused_as r ≡ stored_verdict ws count total
+  pub stored_refused : (total : ℕ) (r : Refusal) → Err r ≡ rows_answer (intervals_of (take (2 * count) ws)) → Err r ≡ stored_verdict ws count total
   stored_refused total r e = rw (passed, ← rows_refused (pairs ws count) r (e ∙ front_counted))
 
-  pub stored_rows : (total n : ℕ) (v : Verdict) → answered n ≡ rows_answer (intervals_of (take (2 * count) ws))
+  pub stored_rows : (total n : ℕ) (v : Verdict) → Ok n ≡ rows_answer (intervals_of (take (2 * count) ws))
       → v ≡ cond (eqb n total) accepted (refused 9 0 count) → v ≡ stored_verdict ws count total
   stored_rows total n v e d =
       let told = rows_counted (pairs ws count) n (e ∙ front_counted) in
@@ -69,5 +68,9 @@ pub stored_accepts : (ws : List ℕ) (count total : ℕ) → StoredList ws count
 stored_accepts ws count total S =
     rw (le-ltb (length ws / 2) count S.within, canonical_accepts (pairs ws count) S.canonical, eq-eqb (rows_of (pairs ws count)) total S.right)
 
-pub stored_of : {ws : List ℕ} {count total : ℕ} (r : Checked) → verdict_of r ≡ stored_verdict ws count total → r ≡ Accepted → StoredList ws count total
-stored_of {ws} {count} {total} r e a = stored ws count total (sym e ∙ ap verdict_of a)
+pub stored_list : {ws : List ℕ} {count total : ℕ} (r : Result (Unit {0}) Refusal) → r ≡ stored_verdict ws count total → r ≡ accepted → StoredList ws count total
+stored_list {ws} {count} {total} r e a = stored ws count total (sym e ∙ a)
+
+-- with a place in it
+pub placed : {ws : List ℕ} {count total at : ℕ} → StoredList ws count total → at ≤ count → Place ws count at
+placed S h = record { within = S.within; canonical = S.canonical; placed = h }

@@ -1,7 +1,7 @@
--- `cover_checked`: from the place and the grown range to the list, its length and its rows. Assumes nothing.
+-- `cover` of a list that is checked: from the place and the grown range to the list, its length and its rows. Assumes nothing.
 use Prim.Native.Nat.{ℕ, zero, suc, ◌+◌, ◌-◌, ◌≤◌, ◌<◌}
 use mathlib.Core.Path.{◌≡◌, ap, ◌∙◌}
-use mathlib.Core.List.{List, ◌∷◌, ◌++◌}
+use mathlib.Core.List.{List, ◌∷◌, ◌++◌, []}
 use native.Mathlib.Decide.{dec_lt}
 use native.Mathlib.Omega.{arith}
 use lib.ListN.{length, length-append}
@@ -11,8 +11,8 @@ use Rattle.intervals.proofs.Laws.{cover_skip, cover_here, cover_some, cover_cano
 use Rattle.pairs_sort.specs.Pairs.{start, finish, pairs_from, pairs}
 use Rattle.pairs_sort.proofs.Laws.{pairs_more, pairs_end, pairs_length}
 use Rattle.position_given.specs.Positions.{rows_of}
-use Rattle.position_given.proofs.Widths.{length_positions, Words, ends_of, positions_bound}
-use Rattle.position_given.proofs.Rows.{cover_ends, rows_append, rows_split}
+use Rattle.position_given.proofs.Widths.{Ends, length_positions, Words, ends_of, positions_bound}
+use Rattle.position_given.proofs.Rows.{rows_append, rows_split}
 use Rattle.position_stored.specs.Inner.{StoredList, Passed, Grew}
 
 -- pairs that end below the range stay
@@ -39,6 +39,10 @@ cover_rest ws count s e at P = elim (dec_lt at count) [
   | no h ↦ rw (pairs_end ws at count (omega arith))
 ]
 
+ends_append : (most : ℕ) (A B : List Interval) → Ends most A → Ends most B → Ends most (A ++ B)
+ends_append most [] B p q = q
+ends_append most (a ∷ A) B p q = (p.0, ends_append most A B p.1 q)
+
 module _ {ws : List ℕ} {count total s e : ℕ} (S : StoredList ws count total) (h : s < e) {at : ℕ} (P : Passed ws count s at)
     {from t f gone : ℕ} (G : Grew ws count at s e from t f gone) where
   pub cover_is : cover (pairs ws count) s e ≡ pairs ws at ++ (t, f) ∷ pairs_from ws from (count - from)
@@ -64,9 +68,9 @@ module _ {ws : List ℕ} {count total s e : ℕ} (S : StoredList ws count total)
   cover_rows =
       omega (arith, parts, rows_append (pairs ws at) ((t, f) ∷ pairs_from ws from (count - from)), length_positions (t, f) (pairs_from ws from (count - from)))
 
-  pub cover_fits : Words ws → e < 18446744073709551616 → total - gone + (f - t) < 18446744073709551616
+  pub cover_fits : Words ws → f < 18446744073709551616 → total - gone + (f - t) < 18446744073709551616
   cover_fits w k =
       let most : ℕ = 18446744073709551615 in
-      let all = positions_bound 0 most (cover (pairs ws count) s e) (omega arith) (cover_canonical (pairs ws count) s e S.canonical)
-      (rw (cover_some (pairs ws count) s e h) (cover_ends most (pairs ws count) s e (omega arith) (ends_of ws w count 0))) in
+      let ends = ends_append most (pairs ws at) ((t, f) ∷ pairs_from ws from (count - from)) (ends_of ws w at 0) (omega arith, ends_of ws w (count - from) from) in
+      let all = positions_bound 0 most (cover (pairs ws count) s e) (omega arith) (cover_canonical (pairs ws count) s e S.canonical) (rw cover_is ends) in
       omega (arith, all, ap rows_of cover_is, cover_rows)

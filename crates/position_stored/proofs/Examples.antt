@@ -1,11 +1,12 @@
 -- Worked examples. Assumes nothing.
+use Rattle.std.specs.Prelude.{Ok}
 use Prim.Native.Nat.{ℕ}
 use mathlib.Core.Path.{◌≡◌, refl}
 use mathlib.Core.List.{List, [], ◌∷◌}
 use Rattle.intervals.specs.Lists.{cuts_of, without_of}
 use Rattle.intervals.specs.Intervals.{piece, cut}
 use Rattle.intervals.specs.Cover.{grow_of, cover_of, cover, uncover}
-use Rattle.item_check.specs.Checks.{answered, refused}
+use Rattle.item_check.specs.Checks.{refused}
 use Rattle.pairs_sort.specs.Pairs.{pairs_from, flat_pairs}
 use Rattle.position_given.specs.Given.{first_touching, canonical_verdict}
 use Rattle.position_given.specs.Positions.{count_up, positions_of}
@@ -19,7 +20,7 @@ joins : cover_words some 2 5 5 10 ≡ 2 ∷ 12 ∷ 0 ∷ 0 ∷ 7 ∷ 7 ∷ 7 ∷
 unfolding some cover cover_of grow_of flat_pairs laid pairs_from first_touching canonical_verdict count_up positions_of
 joins = refl
 
-joins_answer : cover_answer some 2 5 5 10 ≡ answered (1, 10)
+joins_answer : cover_answer some 2 5 5 10 ≡ Ok (1, 10)
 unfolding some cover cover_of grow_of pairs_from first_touching canonical_verdict count_up positions_of
 joins_answer = refl
 
@@ -33,7 +34,7 @@ splits : uncover_words some 2 5 3 4 ≡ 2 ∷ 3 ∷ 4 ∷ 5 ∷ 10 ∷ 12 ∷ 7 
 unfolding some uncover without_of cuts_of cut piece flat_pairs laid pairs_from first_touching canonical_verdict count_up positions_of
 splits = refl
 
-splits_answer : uncover_answer some 2 5 3 4 ≡ answered (3, 4)
+splits_answer : uncover_answer some 2 5 3 4 ≡ Ok (3, 4)
 unfolding some uncover without_of cuts_of cut piece pairs_from first_touching canonical_verdict count_up positions_of
 splits_answer = refl
 

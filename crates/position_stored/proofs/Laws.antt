@@ -1,6 +1,7 @@
 -- Each law that a caller cites, in the order of specs/: what an accepted stored list is, that no list of pairs that covers the same has fewer, and
 -- what the two changes make of one; any sequence of them is in Sequences.antt. Stated of the calls' own answers and of the words that they leave.
 -- No contract cites this file. Assumes nothing.
+use Rattle.std.specs.Prelude.{Ok}
 use Prim.Native.Nat.{ℕ, ◌+◌, ◌*◌, ◌/◌, ◌≤◌, ◌<◌}
 use mathlib.Core.Path.{◌≡◌, refl, sym, ap, ◌∙◌}
 use mathlib.Core.Logic.{◌↔◌}
@@ -12,7 +13,7 @@ use lib.Seq.{length-take-le}
 use Rattle.intervals.specs.Intervals.{Interval, Canonical, inside, holds}
 use Rattle.intervals.specs.Cover.{cover, uncover}
 use Rattle.intervals.proofs.Laws as interval
-use Rattle.item_check.specs.Checks.{answered, accepted}
+use Rattle.item_check.specs.Checks.{accepted}
 use Rattle.pairs_sort.specs.Pairs.{pairs_from, pairs}
 use Rattle.pairs_sort.proofs.Laws.{pairs_length, pairs_take, pairs_longer}
 use Rattle.position_given.specs.Positions.{positions_of, rows_of}
@@ -30,7 +31,7 @@ pub stored_exactly : (ws : List ℕ) (count total : ℕ) → stored_verdict ws c
 stored_exactly ws count total = (stored ws count total, stored_accepts ws count total)
 
 -- 02 §4.6: the total that is read is the stored one
-pub total_read : (ws : List ℕ) (count total : ℕ) → StoredList ws count total → total_answer ws count total ≡ answered total
+pub total_read : (ws : List ℕ) (count total : ℕ) → StoredList ws count total → total_answer ws count total ≡ Ok total
 total_read ws count total S = rw (stored_accepts ws count total S, S.right)
 
 module _ (ws : List ℕ) (count total : ℕ) (S : StoredList ws count total) where
@@ -51,7 +52,7 @@ module _ (ws : List ℕ) (count total : ℕ) (S : StoredList ws count total) whe
 
 -- ---- a range covered
 
-module _ (ws : List ℕ) (count total s e n m : ℕ) (h : cover_answer ws count total s e ≡ answered (n, m)) where
+module _ (ws : List ℕ) (count total s e n m : ℕ) (h : cover_answer ws count total s e ≡ Ok (n, m)) where
   abbrev held : List Interval
   held = pairs ws count
 
@@ -85,29 +86,29 @@ module _ (ws : List ℕ) (count total s e n m : ℕ) (h : cover_answer ws count 
   covered_total = told.rows ∙ rows_newly held s e canonical ∙ ap (λ (k : ℕ). k + length (newly held s e)) told.before.right
 
   -- covering again changes nothing, neither the numbers nor a word
-  pub covered_again : (cover_answer left n m s e ≡ answered (n, m)) × (cover_words left n m s e ≡ left)
+  pub covered_again : (cover_answer left n m s e ≡ Ok (n, m)) × (cover_words left n m s e ≡ left)
   covered_again =
       change_same left n m (cover (pairs left n) s e) covered_stored
       (rw (changed_pairs told) (interval.cover_again held s e canonical))
 
   -- 02 §4.3: uncovering what was covered just now gives back the pairs and the numbers of a list that held none of it
   pub covered_back : ((x : ℕ) → inside s e x ≡ true → holds held x ≡ false)
-      → (uncover_answer left n m s e ≡ answered (count, total)) × (pairs (uncover_words left n m s e) count ≡ held)
+      → (uncover_answer left n m s e ≡ Ok (count, total)) × (pairs (uncover_words left n m s e) count ≡ held)
   covered_back free =
       let is : uncover (pairs left n) s e ≡ held = rw (changed_pairs told) (interval.uncover_covered held s e canonical free) in
       let size : length held ≡ count = pairs_length ws count 0 in
-      let answer : uncover_answer left n m s e ≡ answered (count, total) =
+      let answer : uncover_answer left n m s e ≡ Ok (count, total) =
       ap (change_answer left n m) is
       ∙ change_answered left n m held covered_stored (omega (arith, size, changed_length told, told.before.within))
-      ∙ (λ i. answered (size i, told.before.right i)) in
+      ∙ (λ i. Ok (size i, told.before.right i)) in
       (answer, changed_pairs (changed left n m (uncover (pairs left n) s e) count total answer) ∙ is)
 
 -- covering two ranges in either order: where one order is answered, and the other range has room by itself, the other order has the same
 -- answer and leaves the same pairs
 module _ (ws : List ℕ) (count total s e t f : ℕ) (n m n' m' k l : ℕ)
-    (one : cover_answer ws count total s e ≡ answered (n, m)) (two : cover_answer (cover_words ws count total s e) n m t f ≡ answered (n', m'))
-    (other : cover_answer ws count total t f ≡ answered (k, l)) where
-  pub covered_either : (cover_answer (cover_words ws count total t f) k l s e ≡ answered (n', m'))
+    (one : cover_answer ws count total s e ≡ Ok (n, m)) (two : cover_answer (cover_words ws count total s e) n m t f ≡ Ok (n', m'))
+    (other : cover_answer ws count total t f ≡ Ok (k, l)) where
+  pub covered_either : (cover_answer (cover_words ws count total t f) k l s e ≡ Ok (n', m'))
       × (pairs (cover_words (cover_words ws count total t f) k l s e) n' ≡ pairs (cover_words (cover_words ws count total s e) n m t f) n')
   covered_either =
       let A = pairs ws count in
@@ -122,13 +123,13 @@ module _ (ws : List ℕ) (count total s e t f : ℕ) (n m n' m' k l : ℕ)
       let rows : rows_of (cover (pairs w k) s e) ≡ m' = ap rows_of same ∙ sym second.rows in
       let fits : length (cover (pairs w k) s e) ≤ length w / 2 =
       omega (arith, ap length same, second.room, changed_length first, changed_length third) in
-      let answer : cover_answer w k l s e ≡ answered (n', m') =
-      change_answered w k l (cover (pairs w k) s e) (covered_stored ws count total t f k l other) fits ∙ (λ i. answered (size i, rows i)) in
+      let answer : cover_answer w k l s e ≡ Ok (n', m') =
+      change_answered w k l (cover (pairs w k) s e) (covered_stored ws count total t f k l other) fits ∙ (λ i. Ok (size i, rows i)) in
       (answer, changed_pairs (changed w k l (cover (pairs w k) s e) n' m' answer) ∙ same ∙ sym (changed_pairs second))
 
 -- ---- a range uncovered
 
-module _ (ws : List ℕ) (count total s e n m : ℕ) (h : uncover_answer ws count total s e ≡ answered (n, m)) where
+module _ (ws : List ℕ) (count total s e n m : ℕ) (h : uncover_answer ws count total s e ≡ Ok (n, m)) where
   abbrev had : List Interval
   had = pairs ws count
 
@@ -165,23 +166,23 @@ module _ (ws : List ℕ) (count total s e n m : ℕ) (h : uncover_answer ws coun
 
 -- 02 §4.9: a start not below its end changes nothing, neither the numbers nor a word
 module _ (ws : List ℕ) (count total s e : ℕ) (S : StoredList ws count total) (h : e ≤ s) where
-  pub cover_nothing : (cover_answer ws count total s e ≡ answered (count, total)) × (cover_words ws count total s e ≡ ws)
+  pub cover_nothing : (cover_answer ws count total s e ≡ Ok (count, total)) × (cover_words ws count total s e ≡ ws)
   cover_nothing = change_same ws count total (cover (pairs ws count) s e) S (interval.cover_none (pairs ws count) s e h)
 
-  pub uncover_nothing : (uncover_answer ws count total s e ≡ answered (count, total)) × (uncover_words ws count total s e ≡ ws)
+  pub uncover_nothing : (uncover_answer ws count total s e ≡ Ok (count, total)) × (uncover_words ws count total s e ≡ ws)
   uncover_nothing = change_same ws count total (uncover (pairs ws count) s e) S (interval.uncover_none (pairs ws count) s e h)
 
 -- ---- how much room is always enough
 
 -- a change adds one pair at the most: with room for one more it is answered
 pub cover_answered : (ws : List ℕ) (count total s e : ℕ) → StoredList ws count total → count + 1 ≤ length ws / 2
-    → cover_answer ws count total s e ≡ answered (length (cover (pairs ws count) s e), rows_of (cover (pairs ws count) s e))
+    → cover_answer ws count total s e ≡ Ok (length (cover (pairs ws count) s e), rows_of (cover (pairs ws count) s e))
 cover_answered ws count total s e S h =
     change_answered ws count total (cover (pairs ws count) s e) S
     (omega (arith, interval.length_cover (pairs ws count) s e, pairs_length ws count 0))
 
 pub uncover_answered : (ws : List ℕ) (count total s e : ℕ) → StoredList ws count total → count + 1 ≤ length ws / 2
-    → uncover_answer ws count total s e ≡ answered (length (uncover (pairs ws count) s e), rows_of (uncover (pairs ws count) s e))
+    → uncover_answer ws count total s e ≡ Ok (length (uncover (pairs ws count) s e), rows_of (uncover (pairs ws count) s e))
 uncover_answered ws count total s e S h =
     change_answered ws count total (uncover (pairs ws count) s e) S
     (omega (arith, interval.length_uncover (pairs ws count) s e S.canonical, pairs_length ws count 0))

@@ -1,4 +1,5 @@
 -- What the rewriting of a tail leaves is laid; and answers and words by the room. Assumes nothing.
+use Rattle.std.specs.Prelude.{Ok}
 use Prim.Native.Nat.{ℕ, suc, ◌+◌, ◌-◌, ◌*◌, ◌/◌, ◌≤◌, ◌<◌, max}
 use mathlib.Core.Path.{◌≡◌, sym, ap, ◌∙◌}
 use mathlib.Core.List.{List, [], ◌∷◌, ◌++◌}
@@ -7,12 +8,13 @@ use lib.ListN.{length, drop, replicate}
 use lib.Seq.{sets, drop-drop}
 use borrow.Author.Tests.{lt-ltb, le-ltb}
 use Rattle.intervals.specs.Intervals.{Interval}
-use Rattle.item_check.specs.Checks.{answered, refused, words_by}
+use Rattle.item_check.specs.Checks.{refused}
 use Rattle.pairs_sort.specs.Pairs.{start, finish, pairs_from, pairs, flat_pairs}
 use Rattle.pairs_sort.proofs.Laws.{pairs_more, pairs_end, pairs_length}
 use Rattle.position_given.specs.Positions.{rows_of}
-use Rattle.position_stored.specs.Stored.{laid, list_answer}
+use Rattle.position_stored.specs.Stored.{laid, change_answer, change_words}
 use Rattle.position_stored.specs.Inner.{StoredList}
+use Rattle.position_stored.proofs.Checks.{stored_accepts}
 use Rattle.position_stored.proofs.Words.{laid_is, laid_same}
 
 -- ---- the tail
@@ -49,27 +51,27 @@ laid_later ws vs count A h =
     let q : 2 * max count (length A) ≡ 2 * count + k = omega arith in
     rw (q, ← drop-drop k (2 * count) vs, ← drop-drop k (2 * count) ws, h)
 
--- ---- the room
+-- ---- the room of an accepted list that becomes C
 
-module _ (ws : List ℕ) (count : ℕ) (A C : List Interval) (n : ℕ) (is : C ≡ A) (size : length A ≡ n) where
-  pub room_answer : (m : ℕ) → rows_of A ≡ m → n ≤ length ws / 2 → answered (n, m) ≡ list_answer ws C
-  room_answer m rows h = rw (is, size, rows, le-ltb (length ws / 2) n h)
+module _ {ws : List ℕ} {count total : ℕ} (S : StoredList ws count total) (A C : List Interval) (n : ℕ) (is : C ≡ A) (size : length A ≡ n) where
+  pub room_answer : (m : ℕ) → rows_of A ≡ m → n ≤ length ws / 2 → Ok (n, m) ≡ change_answer ws count total C
+  room_answer m rows h = rw (stored_accepts ws count total S, is, size, rows, le-ltb (length ws / 2) n h)
 
-  pub room_words : n ≤ length ws / 2 → laid ws count A ≡ words_by (list_answer ws C) ws (laid ws count C)
-  room_words h = rw (is, size, le-ltb (length ws / 2) n h)
+  pub room_words : n ≤ length ws / 2 → laid ws count A ≡ change_words ws count total C
+  room_words h = rw (stored_accepts ws count total S, is, size, le-ltb (length ws / 2) n h)
 
-  pub none_answer : length ws / 2 < n → refused 6 0 0 ≡ list_answer ws C
-  none_answer h = rw (is, size, lt-ltb (length ws / 2) n h)
+  pub none_answer : length ws / 2 < n → refused 6 0 0 ≡ change_answer ws count total C
+  none_answer h = rw (stored_accepts ws count total S, is, size, lt-ltb (length ws / 2) n h)
 
-  pub none_words : length ws / 2 < n → ws ≡ words_by (list_answer ws C) ws (laid ws count C)
-  none_words h = rw (is, size, lt-ltb (length ws / 2) n h)
+  pub none_words : length ws / 2 < n → ws ≡ change_words ws count total C
+  none_words h = rw (stored_accepts ws count total S, is, size, lt-ltb (length ws / 2) n h)
 
--- a list that does not change
-module _ (ws : List ℕ) (count total : ℕ) (S : StoredList ws count total) (C : List Interval) (is : C ≡ pairs ws count) where
-  pub same_answer : answered (count, total) ≡ list_answer ws C
-  same_answer = room_answer ws count (pairs ws count) C count is (pairs_length ws count 0) total S.right S.within
+-- one that does not change
+module _ {ws : List ℕ} {count total : ℕ} (S : StoredList ws count total) (C : List Interval) (is : C ≡ pairs ws count) where
+  pub same_answer : Ok (count, total) ≡ change_answer ws count total C
+  same_answer = room_answer S (pairs ws count) C count is (pairs_length ws count 0) total S.right S.within
 
-  pub same_words : ws ≡ words_by (list_answer ws C) ws (laid ws count C)
+  pub same_words : ws ≡ change_words ws count total C
   same_words =
       sym (laid_same ws count (omega (arith, S.within)))
-      ∙ room_words ws count (pairs ws count) C count is (pairs_length ws count 0) S.within
+      ∙ room_words S (pairs ws count) C count is (pairs_length ws count 0) S.within

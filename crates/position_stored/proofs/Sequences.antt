@@ -1,5 +1,6 @@
 -- Any sequence of changes of a stored list that is kept: its total stays right, which rows are covered then, and that no list of pairs that
 -- covers these has fewer. Stated of the calls' own answers and of the words that they leave. No contract cites this file. Assumes nothing.
+use Rattle.std.specs.Prelude.{Ok, Err}
 use Prim.Native.Nat.{ℕ, ◌*◌, ◌≤◌}
 use mathlib.Core.Path.{◌≡◌, refl, sym, ap, ◌∙◌}
 use mathlib.Core.Bool.{Bool, not, ◌&&◌, ◌||◌}
@@ -9,7 +10,7 @@ use lib.ListN.{length, take}
 use Rattle.intervals.specs.Intervals.{Interval, Canonical, inside, holds}
 use Rattle.intervals.specs.Cover.{cover, uncover}
 use Rattle.intervals.proofs.Laws as interval
-use Rattle.item_check.specs.Checks.{Answer, answered, refused_as}
+use Rattle.item_check.specs.Checks.{Answer}
 use Rattle.pairs_sort.specs.Pairs.{pairs}
 use Rattle.pairs_sort.proofs.Laws.{pairs_take, pairs_longer}
 use Rattle.position_stored.specs.Stored.{change_answer, change_words, cover_answer, cover_words, uncover_answer, uncover_words}
@@ -34,8 +35,8 @@ pub record Kept : Type 0 where
 
 -- the words that a call has left, and the numbers of its answer; where it refuses the numbers are as they were
 abbrev pub after : Kept → List ℕ → Answer (ℕ × ℕ) → Kept
-after k vs (answered a) = record { words = vs; count = a.0; total = a.1 }
-after k vs (refused_as r) = record { words = vs; count = k.count; total = k.total }
+after k vs (Ok a) = record { words = vs; count = a.0; total = a.1 }
+after k vs (Err r) = record { words = vs; count = k.count; total = k.total }
 
 abbrev pub step : Kept → Step → Kept
 step k (covering s e) = after k (cover_words k.words k.count k.total s e) (cover_answer k.words k.count k.total s e)
@@ -59,8 +60,8 @@ change_right k A R C = go (change_answer k.words k.count k.total A) refl
   where
     go : (r : Answer (ℕ × ℕ)) → change_answer k.words k.count k.total A ≡ r
         → Right (after k (change_words k.words k.count k.total A) r)
-    go (answered a) q = changed_stored (changed k.words k.count k.total A a.0 a.1 q) C
-    go (refused_as r) q = rw q R
+    go (Ok a) q = changed_stored (changed k.words k.count k.total A a.0 a.1 q) C
+    go (Err r) q = rw q R
 
 step_right : (k : Kept) (x : Step) → Right k → Right (step k x)
 step_right k (covering s e) R =
@@ -83,8 +84,8 @@ kept_rows k = holds (pairs k.words k.count)
 
 -- a row after a change, where it is answered, and before it, where it is refused
 abbrev pub row_by : Answer (ℕ × ℕ) → Bool → Bool → Bool
-row_by (answered a) before now = now
-row_by (refused_as r) before now = before
+row_by (Ok a) before now = now
+row_by (Err r) before now = before
 
 -- the rows that f tells, after one of these: 02 §4.2, with those of a range; 02 §4.3, without them; as they were where it is refused
 abbrev pub step_rows : Kept → Step → (ℕ → Bool) → ℕ → Bool
@@ -105,8 +106,8 @@ change_holds k A p before now b n = go (change_answer k.words k.count k.total A)
   where
     go : (r : Answer (ℕ × ℕ)) → change_answer k.words k.count k.total A ≡ r
         → kept_rows (after k (change_words k.words k.count k.total A) r) p ≡ row_by r before now
-    go (answered a) q = rw (changed_pairs (changed k.words k.count k.total A a.0 a.1 q)) n
-    go (refused_as r) q = rw q b
+    go (Ok a) q = rw (changed_pairs (changed k.words k.count k.total A a.0 a.1 q)) n
+    go (Err r) q = rw q b
 
 step_holds : (k : Kept) (x : Step) (f : ℕ → Bool) → Right k → ((p : ℕ) → kept_rows k p ≡ f p) → (p : ℕ) → kept_rows (step k x) p ≡ step_rows k x f p
 step_holds k (covering s e) f R same p =

@@ -1,11 +1,16 @@
 -- The turns of the loops, and the raise, over the words. Assumes nothing.
-use Prim.Native.Nat.{ℕ, ◌+◌, ◌-◌, ◌*◌, ◌≤◌, ◌<◌, min, max}
+use Prim.Native.Nat.{ℕ, zero, suc, ◌+◌, ◌-◌, ◌*◌, ◌≤◌, ◌<◌, min, max}
 use mathlib.Core.Path.{◌≡◌, refl, sym, ap, ◌∙◌}
-use mathlib.Core.List.{List, ◌∷◌}
+use mathlib.Core.Bool.{Bool, true, false}
+use mathlib.Core.List.{List, [], ◌∷◌}
+use lib.Dec.{ltb}
+use borrow.Author.Tests.{lt-ltb, ltb-true, ltb-false}
+use Rattle.std.specs.Simd.{first_chunks}
+use Rattle.std.specs.List.Sorted.{IsPartitionedBy, IsPartitionPoint}
 use native.Mathlib.Decide.{dec_lt}
 use native.Mathlib.Omega.{arith}
-use lib.ListN.{set, length-set}
-use lib.Seq.{get_or-set_same, get_or-set_other, drop-set-lt}
+use lib.ListN.{length, get_or, set, take, drop, length-set}
+use lib.Seq.{get_or-take, get_or-drop, get_or-set_same, get_or-set_other, drop-set-lt}
 use Rattle.intervals.specs.Lists.{cuts_of}
 use Rattle.intervals.specs.Intervals.{Interval, Apart, Canonical}
 use Rattle.intervals.specs.Cover.{grow_of}
@@ -22,44 +27,45 @@ use Rattle.position_stored.specs.Inner.{Place, Passed, Growing, Grew, Going, Rai
 pub some_at : {ws : List ℕ} {count from i : ℕ} → Place ws count from → i < count → start ws i < finish ws i
 some_at {ws} {count} {i = i} P h = nonempty_at ws count 0 i 0 P.canonical (omega arith) (omega arith)
 
--- ---- halving: ends rise
+-- ---- the halving: ends rise
 
 ends_rise : (ws : List ℕ) (count i j : ℕ) → Canonical (pairs ws count) → i < j → j < count → finish ws i < finish ws j
 ends_rise ws count i j C h l =
     omega (arith, ends_before ws count 0 i j 0 C (omega arith) h (omega arith), nonempty_at ws count 0 j 0 C (omega arith) (omega arith))
 
--- the pairs before low end below x, and those from high on do not
-pub record Halving (ws : List ℕ) (count x low high : ℕ) : Type 0 where
-  pub ordered : low ≤ high
-  pub within : high ≤ count
-  pub before : (k : ℕ) → k < low → finish ws k < x
-  pub here : high < count → x ≤ finish ws high
+-- the end of a pair among the pairs of words
+chunk_end : (k i : ℕ) (ws : List ℕ) (d : List ℕ) → i < k → get_or (get_or (first_chunks 2 k ws) i d) 1 0 ≡ finish ws i
+chunk_end zero i ws d h = absurd (omega arith)
+chunk_end (suc k) zero ws d h = get_or-take 2 ws 1 0 (omega arith)
+chunk_end (suc k) (suc i) ws d h =
+    let q : 2 + (2 * i + 1) ≡ 2 * suc i + 1 = omega arith in
+    chunk_end k i (drop 2 ws) d (omega arith) ∙ get_or-drop 2 ws (2 * i + 1) 0 ∙ ap (λ (n : ℕ). get_or ws n 0) q
 
-pub halving_up : (ws : List ℕ) (count x low high mid : ℕ) → Place ws count 0 → Halving ws count x low high → mid < high → finish ws mid < x
-    → Halving ws count x (mid + 1) high
-halving_up ws count x low high mid P H h l = record {
-  ordered = omega arith;
-  within = H.within;
-  before = λ k m. elim (dec_lt k mid) [
-    | yes u ↦ omega (arith, ends_rise ws count k mid P.canonical u (omega (arith, H.within)))
-    | no u ↦ let q : k ≡ mid = omega arith in rw q l
-  ];
-  here = H.here;
-}
+-- what the halving asks a pair
+abbrev pub ends_under : ℕ → List ℕ → Bool
+ends_under x pair = ltb (get_or pair 1 0) x
 
-pub halving_down : (ws : List ℕ) (count x low high mid : ℕ) → Halving ws count x low high → low ≤ mid → mid < high → x ≤ finish ws mid
-    → Halving ws count x low mid
-halving_down ws count x low high mid H h k l =
-    record { ordered = h; within = omega (arith, H.within); before = H.before; here = λ m. l }
+module _ (x : ℕ) {ws : List ℕ} {count : ℕ} {L : List (List ℕ)} {m : ℕ} (P : Place ws count 0) (is : L ≡ first_chunks 2 m (take (2 * count) ws)) (all : length L ≡ m)
+    (many : m ≡ count) where
+  asked : (i : ℕ) (d : List ℕ) → i < count → ends_under x (get_or L i d) ≡ ltb (finish ws i) x
+  asked i d h = ap (λ (n : ℕ). ltb n x) (rw is (chunk_end m i (take (2 * count) ws) d (omega arith)) ∙ get_or-take (2 * count) ws (2 * i + 1) 0 (omega arith))
 
-pub halving_end : {ws : List ℕ} {count x low high : ℕ} → Halving ws count x low high → high ≤ low → Passed ws count x low
-halving_end {low = low} {high = high} H h =
-    let q : low ≡ high = omega (arith, H.ordered) in
-    record {
-      within = omega (arith, H.ordered, H.within);
-      before = H.before;
-      here = λ l. rw q (H.here (omega arith));
-    }
+  parted : IsPartitionedBy (ends_under x) L
+  parted i j d h l e =
+      asked i d (omega arith) ∙ lt-ltb (finish ws i) x (elim (dec_lt i j) [
+        | yes u ↦ omega (arith, ends_rise ws count i j P.canonical u (omega arith), ltb-true (finish ws j) x (sym (asked j d (omega arith)) ∙ e))
+        | no u ↦ let q : i ≡ j = omega arith in rw q (ltb-true (finish ws j) x (sym (asked j d (omega arith)) ∙ e))
+      ])
+
+  pub passed_by : {n : ℕ} → n ≤ length L → (IsPartitionedBy (ends_under x) L → IsPartitionPoint (λ y. ends_under x y ≡ true) (λ y. ends_under x y ≡ false) L n)
+      → Passed ws count x n
+  passed_by {n} l at =
+      let parts = at parted in
+      record {
+        within = omega arith;
+        before = λ k h. ltb-true (finish ws k) x (sym (asked k [] (omega arith)) ∙ parts.0 k [] (omega arith) h);
+        here = λ h. ltb-false (finish ws n) x (sym (asked n [] h) ∙ parts.1 n [] (omega arith) (omega arith));
+      }
 
 -- ---- growing
 

@@ -1,4 +1,4 @@
--- `uncover_checked`: from the place, the pairs that go whole and the raise to the list, its length and its rows. Assumes nothing.
+-- `uncover` of a list that is checked: from the place, the pairs that go whole and the raise to the list, its length and its rows. Assumes nothing.
 use Prim.Native.Nat.{ℕ, zero, suc, ◌+◌, ◌-◌, ◌≤◌, ◌<◌, max}
 use mathlib.Core.Path.{◌≡◌, refl, sym, ap, ◌∙◌}
 use mathlib.Core.Bool.{cond}

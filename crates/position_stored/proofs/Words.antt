@@ -1,20 +1,15 @@
 -- Pairs as words: that what is moved and cleared is laid, and a turn of the move. Assumes nothing.
-use Prim.Native.Nat.{ℕ, zero, suc, ◌+◌, ◌-◌, ◌*◌, ◌≤◌, ◌<◌, max}
+use Prim.Native.Nat.{ℕ, zero, suc, ◌+◌, ◌-◌, ◌*◌, ◌≤◌, max}
 use mathlib.Core.Path.{◌≡◌, refl, sym, ap, ◌∙◌}
-use mathlib.Core.Bool.{cond}
 use mathlib.Core.List.{List, [], ◌∷◌, ◌++◌, append_assoc}
-use native.Mathlib.Decide.{ℕ_discrete}
 use native.Mathlib.Omega.{arith}
 use native.Mathlib.Numerals.{add-one}
-use lib.Dec.{eqb}
 use lib.ListN.{length, set, take, drop, replicate, length-append, length-replicate, take-append-drop}
-use lib.Seq.{sets, sets-eq, length-sets, length-take-le, take_at, drop_at, drop-drop, set-get_or}
-use borrow.Author.Tests.{eq-eqb, ne_eqb}
+use lib.Seq.{take-append-le, take-take, paste, sets, sets-eq, length-sets, length-take-le, take_at, drop_at, drop-drop, set-get_or}
 use Rattle.intervals.specs.Intervals.{Interval}
-use Rattle.pairs_sort.specs.Pairs.{start, finish, pairs_from, pairs, put, flat_pairs}
-use Rattle.pairs_sort.proofs.Laws.{pairs_more, pairs_end, pairs_ahead, pairs_length, length_flat}
-use Rattle.pairs_sort.proofs.Flat.{flat_append, flat_front}
-use Rattle.pairs_sort.proofs.Shuffles.{put_length}
+use Rattle.pairs_sort.specs.Pairs.{finish, pairs_from, pairs, put, flat_pairs}
+use Rattle.pairs_sort.proofs.Laws.{pairs_ahead, pairs_length, length_flat}
+use Rattle.pairs_sort.proofs.Flat.{flat_append, flat_front, flat_pairs_lem}
 use Rattle.position_stored.specs.Stored.{laid}
 
 -- ---- laid
@@ -70,14 +65,7 @@ module _ (ws : List ℕ) (count at : ℕ) (M : List Interval) (old : 2 * count �
         append_assoc (take (2 * at) ws ++ flat_pairs M) (replicate z 0) (drop (2 * max count (at + length M)) ws),
       )
 
--- ---- a turn of the move: (t, f) is in hand, to pairs are written, those from i on are still to be read
-
-pub record Moving (w : List ℕ) (count at from s e : ℕ) (ws : List ℕ) (t f to i : ℕ) : Type 0 where
-  pub behind : to ≤ i
-  pub within : i ≤ count
-  pub left : to + (count - i) ≤ at + (count - from)
-  pub size : length ws ≡ length w
-  pub whole : sets ws (2 * to) (t ∷ f ∷ flat_pairs (pairs_from ws i (count - i))) ≡ sets w (2 * at) (s ∷ e ∷ flat_pairs (pairs_from w from (count - from)))
+-- ---- the move
 
 -- pairs that are stored where they stand
 flat_same : (l : List ℕ) (k i : ℕ) → sets l (2 * i) (flat_pairs (pairs_from l i k)) ≡ l
@@ -91,49 +79,66 @@ flat_same l (suc k) i =
     ∙ ap (λ (v : List ℕ). sets v (suc (suc (2 * i))) rest) second
     ∙ (rw q at (flat_same l k (suc i)))
 
+-- a pair put is its two words stored
+put_sets : (w : List ℕ) (at s e : ℕ) → put w at s e ≡ sets w (2 * at) (s ∷ e ∷ [])
+put_sets w at s e = ap (λ (n : ℕ). set (set w (2 * at) s) n e) (add-one (2 * at))
+
 -- one pair in the place of one: those behind it stay
-tail_stays : (w : List ℕ) (at k s e : ℕ) → sets w (2 * at) (s ∷ e ∷ []) ≡ sets w (2 * at) (s ∷ e ∷ flat_pairs (pairs_from w (at + 1) k))
+pub tail_stays : (w : List ℕ) (at k s e : ℕ) → put w at s e ≡ sets w (2 * at) (s ∷ e ∷ flat_pairs (pairs_from w (at + 1) k))
 tail_stays w at k s e =
     let q : 2 * (at + 1) ≡ suc (suc (2 * at)) = omega arith in
-    sym (rw (pairs_ahead w at s e (at + 1) k (omega arith), q, add-one (2 * at)) at (flat_same (put w at s e) k (at + 1)))
+    put_sets w at s e ∙ sym (rw (pairs_ahead w at s e (at + 1) k (omega arith), q, add-one (2 * at)) at (flat_same (put w at s e) k (at + 1)))
 
-pub moving_start : (w : List ℕ) (count at from s e i : ℕ) → at ≤ from → from ≤ count → i ≡ cond (eqb (from - at) 1) count from
-    → Moving w count at from s e w s e at i
-unfolding flat_pairs
-moving_start w count at from s e i h k is = go (ℕ_discrete (from - at) 1)
-  where
-    go : Dec (from - at ≡ 1) → Moving w count at from s e w s e at i
-    go (yes q) =
-        let all : i ≡ count = is ∙ rw (eq-eqb (from - at) 1 q) in
-        let next : from ≡ at + 1 = omega arith in
-        rw all (record {
-          behind = omega arith;
-          within = omega arith;
-          left = omega arith;
-          size = refl;
-          whole = rw (pairs_end w count count (omega arith), next) (tail_stays w at (count - (at + 1)) s e);
-        })
-    go (no q) =
-        let same : i ≡ from = is ∙ rw (ne_eqb (from - at) 1 q) in
-        rw same (record { behind = h; within = k; left = omega arith; size = refl; whole = refl })
+-- those behind it are copied to stand behind it
+module _ (ws : List ℕ) (count at from s e : ℕ) (h : from ≤ count) (old : 2 * count ≤ length ws) (new : 2 * (at + 1 + (count - from)) ≤ length ws) where
+  moved : List ℕ
+  moved = flat_pairs (pairs_from ws from (count - from))
 
-module _ {w : List ℕ} {count at from s e : ℕ} {ws : List ℕ} {t f to i : ℕ} (M : Moving w count at from s e ws t f to i) where
-  pub moving_more : i < count → Moving w count at from s e (put ws to t f) (start ws i) (finish ws i) (to + 1) (i + 1)
-  unfolding flat_pairs
-  moving_more h = record {
-    behind = omega (arith, M.behind);
-    within = omega arith;
-    left = omega (arith, M.left);
-    size = put_length ws to t f ∙ M.size;
-    whole =
-        let q : 2 * (to + 1) ≡ suc (suc (2 * to)) = omega arith in
-        rw (pairs_ahead ws to t f (i + 1) (count - (i + 1)) (omega (arith, M.behind)), q, add-one (2 * to))
-        (rw (pairs_more ws i count h) at M.whole);
-  }
+  moved_long : length moved ≡ 2 * (count - from)
+  unfolding moved
+  moved_long = rw (length_flat (pairs_from ws from (count - from)), pairs_length ws (count - from) from)
 
-  pub moving_end : count ≤ i → put ws to t f ≡ sets w (2 * at) (s ∷ e ∷ flat_pairs (pairs_from w from (count - from)))
-  unfolding flat_pairs
-  moving_end h = rw (add-one (2 * to)) (rw (pairs_end ws i count h) at M.whole)
+  moved_are : take (2 * (count - from)) (drop (2 * from) ws) ≡ moved
+  unfolding moved
+  moved_are =
+      let q : from + (count - from) ≡ count = omega arith in
+      rw (← flat_pairs_lem ws from (count - from) (omega arith)) (take_at moved (drop (2 * (from + (count - from))) ws) (2 * (count - from)) moved_long)
 
-  pub moving_size : length (put ws to t f) ≡ length w
-  moving_size = put_length ws to t f ∙ M.size
+  abbrev behind : List ℕ
+  behind = drop (2 * (at + 1) + 2 * (count - from)) ws
+
+  abbrev shifted : List ℕ
+  shifted = take (2 * (at + 1)) ws ++ (flat_pairs (pairs_from ws from (count - from)) ++ behind)
+
+  shifted_is : paste ws (2 * (at + 1)) (drop (2 * from) ws) (2 * count - 2 * from) ≡ shifted
+  unfolding moved
+  shifted_is =
+      let n : 2 * count - 2 * from ≡ 2 * (count - from) = omega arith in
+      rw (n, moved_are) (append_assoc (take (2 * (at + 1)) ws) moved behind)
+
+  stored_short : sets shifted (2 * at) (s ∷ e ∷ []) ≡ (take (2 * at) ws ++ (s ∷ e ∷ [])) ++ (moved ++ behind)
+  unfolding moved
+  stored_short =
+      let front : List ℕ = take (2 * (at + 1)) ws in
+      let long : length front ≡ 2 * (at + 1) = length-take-le (2 * (at + 1)) ws (omega arith) in
+      let size : length shifted ≡ length front + length {A = ℕ} (moved ++ behind) = length-append front (moved ++ behind) in
+      let two : 2 * at + length {A = ℕ} (s ∷ e ∷ []) ≡ 2 * (at + 1) = omega arith in
+      let low : take (2 * at) shifted ≡ take (2 * at) ws = take-append-le (2 * at) front (moved ++ behind) (omega arith) ∙ take-take (2 * at) (2 * (at + 1)) ws (omega arith) in
+      let high : drop (2 * (at + 1)) shifted ≡ moved ++ behind = drop_at front (moved ++ behind) (2 * (at + 1)) long in
+      rw (two, low, high) at (sets-eq (s ∷ e ∷ []) shifted (2 * at) (omega arith))
+
+  stored_long : sets ws (2 * at) (s ∷ e ∷ moved) ≡ (take (2 * at) ws ++ (s ∷ e ∷ moved)) ++ behind
+  unfolding moved
+  stored_long =
+      let all : 2 * at + length {A = ℕ} (s ∷ e ∷ moved) ≡ 2 * (at + 1) + 2 * (count - from) = omega (arith, moved_long) in
+      rw all at (sets-eq (s ∷ e ∷ moved) ws (2 * at) (omega arith))
+
+  pub copied_put : (v : List ℕ) → v ≡ paste ws (2 * (at + 1)) (drop (2 * from) ws) (2 * count - 2 * from)
+      → put v at s e ≡ sets ws (2 * at) (s ∷ e ∷ flat_pairs (pairs_from ws from (count - from)))
+  unfolding moved
+  copied_put v is =
+      rw (is, shifted_is) (put_sets shifted at s e
+      ∙ stored_short
+      ∙ append_assoc (take (2 * at) ws) (s ∷ e ∷ []) (moved ++ behind)
+      ∙ sym (append_assoc (take (2 * at) ws) (s ∷ e ∷ moved) behind)
+      ∙ sym stored_long)

@@ -1,9 +1,9 @@
 -- A stored list: the first count pairs of a buffer, and beside it how many rows they cover. Its checks, what the calls answer, and the words that
 -- they leave. What a list is in which a range is covered or uncovered, `cover` and `uncover` of `intervals` say. Definitions only. Assumes nothing.
-use Rattle.std.specs.Prelude.{ℕ, ◌-◌, ◌*◌, ◌/◌, max, cond, List, ◌++◌, length, drop, replicate, ltb, eqb}
+use Rattle.std.specs.Prelude.{ℕ, ◌-◌, ◌*◌, ◌/◌, max, cond, List, ◌++◌, length, drop, replicate, ltb, eqb, Ok}
 use Rattle.intervals.specs.Intervals.{Interval}
 use Rattle.intervals.specs.Cover.{cover, uncover}
-use Rattle.item_check.specs.Checks.{Answer, answered, refused, Verdict, accepted, and_then, words_by}
+use Rattle.item_check.specs.Checks.{Answer, refused, Verdict, accepted, and_then, words_by}
 use Rattle.pairs_sort.specs.Pairs.{pairs, flat_pairs}
 use Rattle.position_given.specs.Given.{canonical_verdict}
 use Rattle.position_given.specs.Positions.{rows_of}
@@ -25,7 +25,7 @@ stored_verdict ws count total =
 
 -- 02 §4.6: whoever reads the stored total gets what counting afresh gives
 abbrev pub total_answer : List ℕ → ℕ → ℕ → Answer ℕ
-total_answer ws count total = and_then (stored_verdict ws count total) (answered (rows_of (pairs ws count)))
+total_answer ws count total = and_then (stored_verdict ws count total) (Ok (rows_of (pairs ws count)))
 
 -- ---- the words
 
@@ -37,7 +37,7 @@ laid ws count A = flat_pairs A ++ (replicate (2 * (count - length A)) 0 ++ drop 
 
 -- 02 §4.11, §4.4: 6 exactly if the new canonical list does not fit, reading B9: it alone counts; else its number of pairs and its rows
 abbrev pub list_answer : List ℕ → List Interval → Answer (ℕ × ℕ)
-list_answer ws A = cond (ltb (length ws / 2) (length A)) (refused 6 0 0) (answered (length A, rows_of A))
+list_answer ws A = cond (ltb (length ws / 2) (length A)) (refused 6 0 0) (Ok (length A, rows_of A))
 
 -- 02 §4.8: the words of a checked list that becomes A, where there is room
 abbrev pub list_words : List ℕ → ℕ → List Interval → List ℕ

@@ -1,5 +1,6 @@
 -- The item between two boundaries, in three cases: a key, where both are inclusive and their bytes the same; an item whose own boundaries these
 -- are; and none, where the first cannot start a range or the second cannot end one. Assumes nothing.
+use Rattle.std.specs.Prelude.{Option, None, Some}
 use Prim.Native.Nat.{ℕ}
 use mathlib.Core.Path.{◌≡◌, refl}
 use mathlib.Core.Bool.{Bool, true, false, cond}
@@ -20,8 +21,6 @@ use Rattle.query_item.specs.declared.QueryItem.TheVariants.{
 }
 use Rattle.query_item.specs.declared.RangeSetItem.{RangeSetItem}
 use Rattle.query_item.specs.declared.RangeSetItem.TheVariants.{UnboundedStart, UnboundedEnd, Inclusive, ExclusiveStart, ExclusiveEnd}
-use Rattle.query_item.specs.declared.MaybeItem.{MaybeItem}
-use Rattle.query_item.specs.declared.MaybeItem.TheVariants.{NoItem, Item}
 use Rattle.query_item.specs.Items.{bytes_of, same}
 use Rattle.query_item.specs.Boundaries.{to_range_set, item_between, to_query_item}
 
@@ -55,15 +54,15 @@ item_sides (RangeAfterTo a b) = (tt, tt)
 item_sides (RangeAfterToInclusive a b) = (tt, tt)
 
 -- what holds in the three cases holds of what two boundaries make
-pub each_between : (pool : List ℕ) (P : RangeSetItem → RangeSetItem → MaybeItem → Type 0)
-    → ((a b : KeyAt) → same (bytes_of pool a) (bytes_of pool b) ≡ true → P (Inclusive a) (Inclusive b) (Item (Key a)))
-    → ((q : QueryItem) → to_query_item pool (to_range_set q) ≡ Item q → P (to_range_set q).start (to_range_set q).end (Item q))
-    → ((s e : RangeSetItem) → (Starts s → Ends e → ⊥) → P s e NoItem)
+pub each_between : (pool : List ℕ) (P : RangeSetItem → RangeSetItem → Option QueryItem → Type 0)
+    → ((a b : KeyAt) → same (bytes_of pool a) (bytes_of pool b) ≡ true → P (Inclusive a) (Inclusive b) (Some (Key a)))
+    → ((q : QueryItem) → to_query_item pool (to_range_set q) ≡ Some q → P (to_range_set q).start (to_range_set q).end (Some q))
+    → ((s e : RangeSetItem) → (Starts s → Ends e → ⊥) → P s e None)
     → (s e : RangeSetItem) → P s e (item_between pool s e)
 each_between pool P key own none (Inclusive a) (Inclusive b) = go (same (bytes_of pool a) (bytes_of pool b)) refl
   where
     go : (t : Bool) → same (bytes_of pool a) (bytes_of pool b) ≡ t
-        → P (Inclusive a) (Inclusive b) (cond t (Item (Key a)) (Item (RangeInclusive a b)))
+        → P (Inclusive a) (Inclusive b) (cond t (Some (Key a)) (Some (RangeInclusive a b)))
     go true e = key a b e
     go false e = own (RangeInclusive a b) (rw e)
 each_between pool P key own none (Inclusive a) (ExclusiveEnd b) = own (Range a b) refl

@@ -1,5 +1,7 @@
 -- A range of a pool as an interval of ranks, at a size n that fits: the order of boundaries, upright and strict as numbers, what a range
 -- holds, and what `invert` does. Assumes nothing.
+use Rattle.std.specs.Prelude.{Option, None, Some}
+use Rattle.std.specs.Ordering.{is_lt, is_le}
 use Prim.Native.Nat.{ℕ, ◌+◌, ◌*◌, ◌≤◌, ◌<◌}
 use mathlib.Core.Path.{◌≡◌, refl, sym, ap, ap₂, ◌∙◌}
 use mathlib.Core.Bool.{Bool, true, false, ◌&&◌}
@@ -9,7 +11,6 @@ use native.Mathlib.Omega.{arith}
 use lib.ListN.{length}
 use lib.Dec.{leb, ltb}
 use borrow.Author.Tests.{leb-true, lt-ltb, le-ltb, le-leb, lt-leb}
-use Rattle.key_order.specs.Order.{is_less, is_at_most}
 use Rattle.key_order.specs.Boundary.{Boundary, between}
 use Rattle.key_order.proofs.Line.{size, past}
 use Rattle.key_order.proofs.Numbers.{Says}
@@ -21,8 +22,6 @@ use Rattle.query_item.specs.declared.QueryItem.{QueryItem}
 use Rattle.query_item.specs.declared.RangeSetItem.{RangeSetItem}
 use Rattle.query_item.specs.declared.RangeSetItem.TheVariants.{UnboundedStart, UnboundedEnd, Inclusive, ExclusiveStart, ExclusiveEnd}
 use Rattle.query_item.specs.declared.RangeSet.{RangeSet}
-use Rattle.query_item.specs.declared.MaybeItem.{MaybeItem}
-use Rattle.query_item.specs.declared.MaybeItem.TheVariants.{NoItem, Item}
 use Rattle.query_item.specs.Items.{query_item, holds, holds_maybe, holds_any}
 use Rattle.query_item.specs.Boundaries.{boundary_of, compare_in, invert_of, to_range_set, range_of, to_query_item, upright}
 use Rattle.query_item.proofs.Fits.{boundary_fits}
@@ -41,10 +40,10 @@ module _ (pool : List ℕ) (n : ℕ) (fits : size pool ≤ n) where
 
   -- the tests of boundaries are those of their ranks
 
-  pub less_rank : (x y : RangeSetItem) → is_less (compare_in pool x y) ≡ ltb (rank_in x) (rank_in y)
+  pub less_rank : (x y : RangeSetItem) → is_lt (compare_in pool x y) ≡ ltb (rank_in x) (rank_in y)
   less_rank x y = boundary_less n (boundary_of pool x) (boundary_of pool y) (fit x) (fit y)
 
-  pub at_most_rank : (x y : RangeSetItem) → is_at_most (compare_in pool x y) ≡ leb (rank_in x) (rank_in y)
+  pub at_most_rank : (x y : RangeSetItem) → is_le (compare_in pool x y) ≡ leb (rank_in x) (rank_in y)
   at_most_rank x y = boundary_at_most n (boundary_of pool x) (boundary_of pool y) (fit x) (fit y)
 
   pub rank_says_in : (x y : RangeSetItem) → Says (compare_in pool x y) (rank_in x) (rank_in y)
@@ -126,10 +125,10 @@ module _ (pool : List ℕ) (n : ℕ) (fits : size pool ≤ n) where
       → holds_maybe pool (to_query_item pool a) k ≡ inside (interval a).0 (interval a).1 (key_rank n k)
   holds_made a s e k h = go (to_query_item pool a) refl (item_told pool a.start a.end s e) ∙ between_interval a k h
     where
-      go : (m : MaybeItem) → to_query_item pool a ≡ m → Tells pool a.start a.end m
+      go : (m : Option QueryItem) → to_query_item pool a ≡ m → Tells pool a.start a.end m
           → holds_maybe pool m k ≡ between (boundary_of pool a.start) (boundary_of pool a.end) k
-      go NoItem i t = absurd t
-      go (Item q) i t = holds_converted pool a.start a.end q k i
+      go None i t = absurd t
+      go (Some q) i t = holds_converted pool a.start a.end q k i
 
   -- ---- a start that is not the first, inverted, ends just before it; an end that is not the last, inverted, starts just past it
 

@@ -1,21 +1,21 @@
 -- A range of a pool, seen as its two boundaries with their key bytes: which of two is the smaller, what `invert` makes of one, the item that two
 -- of them make, and the ranges of items that show the same, of one pool or of two. Assumes nothing.
+use Rattle.query_item.specs.declared.QueryItem.{QueryItem}
+use Rattle.std.specs.Prelude.{Option, None, Some}
+use Rattle.std.specs.declared.cmp.Ordering.{Ordering}
+use Rattle.std.specs.declared.cmp.Ordering.TheVariants.{Less, Equal, Greater}
 use Prim.Native.Nat.{ℕ}
 use mathlib.Core.Path.{◌≡◌, refl, ap, ap₂}
 use mathlib.Core.Bool.{Bool, true, false, cond, ◌&&◌}
 use mathlib.Core.List.{List, [], ◌∷◌, map}
 use native.Mathlib.Omega.{arith}
 use lib.ListN.{length}
-use Rattle.key_order.specs.declared.Ordering.{Ordering}
-use Rattle.key_order.specs.declared.Ordering.TheVariants.{Less, Equal, Greater}
 use Rattle.key_order.specs.Order.{smaller}
 use Rattle.key_order.specs.Boundary.{exclusive_end, inclusive, exclusive_start, Boundary, unbounded_start, unbounded_end, at_key}
 use Rattle.query_item.specs.declared.ItemWords.{ItemWords}
 use Rattle.query_item.specs.declared.RangeSetItem.{RangeSetItem}
 use Rattle.query_item.specs.declared.RangeSetItem.TheVariants.{UnboundedStart, UnboundedEnd, Inclusive, ExclusiveStart, ExclusiveEnd}
 use Rattle.query_item.specs.declared.RangeSet.{RangeSet}
-use Rattle.query_item.specs.declared.MaybeItem.{MaybeItem}
-use Rattle.query_item.specs.declared.MaybeItem.TheVariants.{NoItem, Item}
 use Rattle.query_item.specs.Items.{words_of, Shown, shown}
 use Rattle.query_item.specs.Boundaries.{boundary_of, invert_of, range_of, item_between, to_query_item}
 use Rattle.query_item.proofs.Told.{told, Tells, item_told, shown_range}
@@ -54,9 +54,9 @@ is_end (at_key k exclusive_start) = false
 abbrev pub told_item : Sides → List Shown
 told_item b = cond (is_start b.0 && is_end b.1) (told b.0 b.1 ∷ []) []
 
-abbrev pub shown_item : List ℕ → MaybeItem → List Shown
-shown_item pool NoItem = []
-shown_item pool (Item q) = shown pool (words_of 0 q) ∷ []
+abbrev pub shown_item : List ℕ → Option QueryItem → List Shown
+shown_item pool None = []
+shown_item pool (Some q) = shown pool (words_of 0 q) ∷ []
 
 module _ (pool : List ℕ) where
   pub smaller_seen : (o : Ordering) (x y : RangeSetItem) → boundary_of pool (smaller o x y) ≡ smaller o (boundary_of pool x) (boundary_of pool y)
@@ -75,9 +75,9 @@ module _ (pool : List ℕ) where
   pub item_seen : (s : RangeSet) → shown_item pool (to_query_item pool s) ≡ told_item (seen pool s)
   item_seen s = go s.start s.end
     where
-      some : (m : MaybeItem) (s e : RangeSetItem) → Tells pool s e m → shown_item pool m ≡ told (boundary_of pool s) (boundary_of pool e) ∷ []
-      some NoItem s e t = absurd t
-      some (Item q) s e t = ap (λ (h : Shown). h ∷ []) t
+      some : (m : Option QueryItem) (s e : RangeSetItem) → Tells pool s e m → shown_item pool m ≡ told (boundary_of pool s) (boundary_of pool e) ∷ []
+      some None s e t = absurd t
+      some (Some q) s e t = ap (λ (h : Shown). h ∷ []) t
 
       go : (s e : RangeSetItem) → shown_item pool (item_between pool s e) ≡ told_item (boundary_of pool s, boundary_of pool e)
       go (Inclusive a) (Inclusive b) =

@@ -1,5 +1,6 @@
 -- What an item shows, told by its boundaries: a start and an end make an item, which has the kind and the key bytes that these have; and
 -- items that show the same have the same boundaries. Assumes nothing.
+use Rattle.std.specs.Prelude.{Option, None, Some}
 use Prim.Native.Nat.{ℕ}
 use mathlib.Core.Path.{◌≡◌, refl, ap}
 use mathlib.Core.Bool.{Bool, true, false, cond}
@@ -22,8 +23,6 @@ use Rattle.query_item.specs.declared.QueryItem.TheVariants.{
   RangeAfterToInclusive,
 }
 use Rattle.query_item.specs.declared.RangeSetItem.{RangeSetItem}
-use Rattle.query_item.specs.declared.MaybeItem.{MaybeItem}
-use Rattle.query_item.specs.declared.MaybeItem.TheVariants.{NoItem, Item}
 use Rattle.query_item.specs.Items.{bytes_of, item_of, words_of, query_item, same, Shown, shown}
 use Rattle.query_item.specs.Boundaries.{boundary_of, to_range_set, item_between, to_query_item}
 use Rattle.query_item.proofs.Words.{each_item, unknown_item}
@@ -67,16 +66,16 @@ told (at_key a exclusive_start) e = after_key a e
 
 module _ (pool : List ℕ) where
   -- there is an item, and it shows what two boundaries tell
-  abbrev pub Tells : RangeSetItem → RangeSetItem → MaybeItem → Type 0
-  Tells s e NoItem = ⊥
-  Tells s e (Item q) = shown pool (words_of 0 q) ≡ told (boundary_of pool s) (boundary_of pool e)
+  abbrev pub Tells : RangeSetItem → RangeSetItem → Option QueryItem → Type 0
+  Tells s e None = ⊥
+  Tells s e (Some q) = shown pool (words_of 0 q) ≡ told (boundary_of pool s) (boundary_of pool e)
 
-  own_told : (q : QueryItem) → to_query_item pool (to_range_set q) ≡ Item q → Tells (to_range_set q).start (to_range_set q).end (Item q)
+  own_told : (q : QueryItem) → to_query_item pool (to_range_set q) ≡ Some q → Tells (to_range_set q).start (to_range_set q).end (Some q)
   own_told (Key a) i = rw ((compare_same (bytes_of pool a) (bytes_of pool a)).1 refl)
   own_told (Range a b) i = refl
   own_told (RangeInclusive a b) i = go (same (bytes_of pool a) (bytes_of pool b)) i
     where
-      go : (t : Bool) → cond t (Item (Key a)) (Item (RangeInclusive a b)) ≡ Item (RangeInclusive a b)
+      go : (t : Bool) → cond t (Some (Key a)) (Some (RangeInclusive a b)) ≡ Some (RangeInclusive a b)
           → shown pool (words_of 0 (RangeInclusive a b)) ≡ cond t (0, 0, bytes_of pool a, []) (2, 0, bytes_of pool a, bytes_of pool b)
       go true e = cc
       go false e = refl

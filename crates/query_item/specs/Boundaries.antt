@@ -1,7 +1,7 @@
 -- Boundaries whose keys are parts of a pool: their order, `invert`, and both conversions. Definitions only. Assumes nothing.
-use Rattle.std.specs.Prelude.{ℕ, List, Bool, cond}
-use Rattle.key_order.specs.declared.Ordering.{Ordering}
-use Rattle.key_order.specs.Order.{is_at_most}
+use Rattle.std.specs.declared.cmp.Ordering.{Ordering}
+use Rattle.std.specs.Ordering.{is_le}
+use Rattle.std.specs.Prelude.{ℕ, List, Bool, cond, Option, None, Some}
 use Rattle.key_order.specs.Boundary.{Boundary, compare_boundaries}
 use Rattle.boundary.specs.declared.BoundaryKind.{BoundaryKind}
 use Rattle.boundary.specs.declared.BoundaryKind.TheVariants as kind
@@ -24,8 +24,6 @@ use Rattle.query_item.specs.declared.QueryItem.TheVariants.{
 use Rattle.query_item.specs.declared.RangeSetItem.{RangeSetItem}
 use Rattle.query_item.specs.declared.RangeSetItem.TheVariants.{UnboundedStart, UnboundedEnd, Inclusive, ExclusiveStart, ExclusiveEnd}
 use Rattle.query_item.specs.declared.RangeSet.{RangeSet}
-use Rattle.query_item.specs.declared.MaybeItem.{MaybeItem}
-use Rattle.query_item.specs.declared.MaybeItem.TheVariants.{NoItem, Item}
 use Rattle.query_item.specs.Items.{bytes_of, absent, same, query_item, item_at}
 
 -- 01 change.1: a boundary of a pool as its kind and its key
@@ -88,28 +86,28 @@ set_at ws i = range_of (item_at ws i)
 
 -- 01 keys.12: the item of the two boundaries, or "no item" where the table has none;
 -- inclusive a to inclusive a, by bytes, is Key a with the start's offset
-abbrev pub item_between : List ℕ → RangeSetItem → RangeSetItem → MaybeItem
-item_between pool (Inclusive a) (Inclusive b) = cond (same (bytes_of pool a) (bytes_of pool b)) (Item (Key a)) (Item (RangeInclusive a b))
-item_between pool (Inclusive a) (ExclusiveEnd b) = Item (Range a b)
-item_between pool (Inclusive a) UnboundedEnd = Item (RangeFrom a)
-item_between pool (Inclusive a) UnboundedStart = NoItem
-item_between pool (Inclusive a) (ExclusiveStart b) = NoItem
-item_between pool (ExclusiveStart a) (Inclusive b) = Item (RangeAfterToInclusive a b)
-item_between pool (ExclusiveStart a) (ExclusiveEnd b) = Item (RangeAfterTo a b)
-item_between pool (ExclusiveStart a) UnboundedEnd = Item (RangeAfter a)
-item_between pool (ExclusiveStart a) UnboundedStart = NoItem
-item_between pool (ExclusiveStart a) (ExclusiveStart b) = NoItem
-item_between pool UnboundedStart (Inclusive b) = Item (RangeToInclusive b)
-item_between pool UnboundedStart (ExclusiveEnd b) = Item (RangeTo b)
-item_between pool UnboundedStart UnboundedEnd = Item RangeFull
-item_between pool UnboundedStart UnboundedStart = NoItem
-item_between pool UnboundedStart (ExclusiveStart b) = NoItem
-item_between pool UnboundedEnd e = NoItem
-item_between pool (ExclusiveEnd a) e = NoItem
+abbrev pub item_between : List ℕ → RangeSetItem → RangeSetItem → Option QueryItem
+item_between pool (Inclusive a) (Inclusive b) = cond (same (bytes_of pool a) (bytes_of pool b)) (Some (Key a)) (Some (RangeInclusive a b))
+item_between pool (Inclusive a) (ExclusiveEnd b) = Some (Range a b)
+item_between pool (Inclusive a) UnboundedEnd = Some (RangeFrom a)
+item_between pool (Inclusive a) UnboundedStart = None
+item_between pool (Inclusive a) (ExclusiveStart b) = None
+item_between pool (ExclusiveStart a) (Inclusive b) = Some (RangeAfterToInclusive a b)
+item_between pool (ExclusiveStart a) (ExclusiveEnd b) = Some (RangeAfterTo a b)
+item_between pool (ExclusiveStart a) UnboundedEnd = Some (RangeAfter a)
+item_between pool (ExclusiveStart a) UnboundedStart = None
+item_between pool (ExclusiveStart a) (ExclusiveStart b) = None
+item_between pool UnboundedStart (Inclusive b) = Some (RangeToInclusive b)
+item_between pool UnboundedStart (ExclusiveEnd b) = Some (RangeTo b)
+item_between pool UnboundedStart UnboundedEnd = Some RangeFull
+item_between pool UnboundedStart UnboundedStart = None
+item_between pool UnboundedStart (ExclusiveStart b) = None
+item_between pool UnboundedEnd e = None
+item_between pool (ExclusiveEnd a) e = None
 
-abbrev pub to_query_item : List ℕ → RangeSet → MaybeItem
+abbrev pub to_query_item : List ℕ → RangeSet → Option QueryItem
 to_query_item pool s = item_between pool s.start s.end
 
 -- 01 keys.9: an item is upright when its start is not above its end
 abbrev pub upright : List ℕ → RangeSet → Bool
-upright pool s = is_at_most (compare_in pool s.start s.end)
+upright pool s = is_le (compare_in pool s.start s.end)

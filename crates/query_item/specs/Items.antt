@@ -1,7 +1,8 @@
 -- Items: the keys that they name, their words and codes, and which keys they hold. Definitions only. Assumes nothing.
-use Rattle.std.specs.Prelude.{ℕ, zero, suc, ◌+◌, ◌*◌, ◌/◌, ◌≡◌, List, [], ◌∷◌, ◌++◌, map, Bool, true, false, cond, ◌||◌, ◌&&◌, length, get_or, take, drop, ltb, eqb}
+use Rattle.std.specs.Ordering.{is_lt, is_le, is_eq}
+use Rattle.std.specs.Prelude.{ℕ, zero, suc, ◌+◌, ◌*◌, ◌/◌, ◌≡◌, List, [], ◌∷◌, ◌++◌, map, Bool, true, false, cond, ◌||◌, ◌&&◌, length, get_or, take, drop, ltb, eqb, Option, None, Some}
 use Rattle.std.proofs.lemmas.List.Edits.{sets}
-use Rattle.key_order.specs.Order.{compare_keys, is_less, is_at_most, is_equal}
+use Rattle.key_order.specs.Order.{compare_keys}
 use Rattle.query_item.specs.declared.KeyAt.{KeyAt}
 use Rattle.query_item.specs.declared.ItemWords.{ItemWords}
 use Rattle.query_item.specs.declared.QueryItem.{QueryItem}
@@ -17,8 +18,6 @@ use Rattle.query_item.specs.declared.QueryItem.TheVariants.{
   RangeAfterTo,
   RangeAfterToInclusive,
 }
-use Rattle.query_item.specs.declared.MaybeItem.{MaybeItem}
-use Rattle.query_item.specs.declared.MaybeItem.TheVariants.{NoItem, Item}
 
 -- 01 keys.2: items name keys by offset and length in one lent pool; what reaches past the pool is not there
 abbrev pub bytes_of : List ℕ → KeyAt → List ℕ
@@ -68,13 +67,13 @@ words_of w (RangeAfterToInclusive a b) = item_words 9 w a b
 
 -- 01 keys.1: x < y and x ≤ y and x = y of keys
 abbrev pub below : List ℕ → List ℕ → Bool
-below x y = is_less (compare_keys x y)
+below x y = is_lt (compare_keys x y)
 
 abbrev pub at_most : List ℕ → List ℕ → Bool
-at_most x y = is_at_most (compare_keys x y)
+at_most x y = is_le (compare_keys x y)
 
 abbrev pub same : List ℕ → List ℕ → Bool
-same x y = is_equal (compare_keys x y)
+same x y = is_eq (compare_keys x y)
 
 -- 01 item.0, item.1, item.2, item.3, item.4, item.5, item.6, item.7, item.8, item.9: which keys an item holds
 abbrev pub holds : List ℕ → QueryItem → List ℕ → Bool
@@ -90,9 +89,9 @@ holds pool (RangeAfterTo a b) k = below (bytes_of pool a) k && below k (bytes_of
 holds pool (RangeAfterToInclusive a b) k = below (bytes_of pool a) k && at_most k (bytes_of pool b)
 
 -- 01 change.2: an item that may be missing holds no key where it is missing
-abbrev pub holds_maybe : List ℕ → MaybeItem → List ℕ → Bool
-holds_maybe pool NoItem k = false
-holds_maybe pool (Item q) k = holds pool q k
+abbrev pub holds_maybe : List ℕ → Option QueryItem → List ℕ → Bool
+holds_maybe pool None k = false
+holds_maybe pool (Some q) k = holds pool q k
 
 -- ---- lists of items as words
 

@@ -4,8 +4,7 @@ ghost use Rattle.query_item.specs.Boundaries.{to_range_set, to_query_item, item_
 ghost use Rattle.query_item.specs.declared.RangeSetItem.TheVariants.{UnboundedStart, Inclusive, ExclusiveStart};
 
 use crate::pooled::compare_keys;
-use crate::{KeyAt, MaybeItem, QueryItem, RangeSet, RangeSetItem};
-use key_order::is_equal;
+use crate::{KeyAt, QueryItem, RangeSet, RangeSetItem};
 
 impl QueryItem {
     // inner: the two boundaries of an item.
@@ -59,66 +58,64 @@ impl QueryItem {
 
 impl RangeSet {
     // inner: the item of two boundaries, where there is one.
-    pub fn to_query_item(self, pool: &[u8]) -> MaybeItem
+    pub fn to_query_item(self, pool: &[u8]) -> Option<QueryItem>
         ensures { result ≡ to_query_item pool.now self }
     {
-        let start = self.start;
-        let end = self.end;
-        match start {
-            RangeSetItem::Inclusive(a) => item_from(pool, a, end),
-            RangeSetItem::ExclusiveStart(a) => item_after(a, end),
-            RangeSetItem::UnboundedStart => item_to(end),
-            RangeSetItem::UnboundedEnd => MaybeItem::NoItem,
-            RangeSetItem::ExclusiveEnd(_) => MaybeItem::NoItem,
+        match self.start {
+            RangeSetItem::Inclusive(a) => item_from(pool, a, self.end),
+            RangeSetItem::ExclusiveStart(a) => item_after(a, self.end),
+            RangeSetItem::UnboundedStart => item_to(self.end),
+            RangeSetItem::UnboundedEnd => None,
+            RangeSetItem::ExclusiveEnd(_) => None,
         }
     }
 }
 
 // inner: the item that starts with the key a, by its end.
-pub fn item_from(pool: &[u8], a: KeyAt, end: RangeSetItem) -> MaybeItem
+pub fn item_from(pool: &[u8], a: KeyAt, end: RangeSetItem) -> Option<QueryItem>
     ensures { result ≡ item_between pool.now (Inclusive a) end }
 {
     match end {
         RangeSetItem::Inclusive(b) => inclusive_item(pool, a, b),
-        RangeSetItem::ExclusiveEnd(b) => MaybeItem::Item(QueryItem::Range(a, b)),
-        RangeSetItem::UnboundedEnd => MaybeItem::Item(QueryItem::RangeFrom(a)),
-        RangeSetItem::UnboundedStart => MaybeItem::NoItem,
-        RangeSetItem::ExclusiveStart(_) => MaybeItem::NoItem,
+        RangeSetItem::ExclusiveEnd(b) => Some(QueryItem::Range(a, b)),
+        RangeSetItem::UnboundedEnd => Some(QueryItem::RangeFrom(a)),
+        RangeSetItem::UnboundedStart => None,
+        RangeSetItem::ExclusiveStart(_) => None,
     }
 }
 
 // From a to b, both held: of equal bytes the key, with a's offset.
-fn inclusive_item(pool: &[u8], a: KeyAt, b: KeyAt) -> MaybeItem
+fn inclusive_item(pool: &[u8], a: KeyAt, b: KeyAt) -> Option<QueryItem>
     ensures { result ≡ item_between pool.now (Inclusive a) (Inclusive b) }
 {
-    if is_equal(compare_keys(pool, a, b)) {
-        return MaybeItem::Item(QueryItem::Key(a));
+    if compare_keys(pool, a, b).is_eq() {
+        return Some(QueryItem::Key(a));
     }
-    MaybeItem::Item(QueryItem::RangeInclusive(a, b))
+    Some(QueryItem::RangeInclusive(a, b))
 }
 
 // inner: the item that starts just past the key a, by its end. No bytes decide: it is that of every pool.
-pub fn item_after(a: KeyAt, end: RangeSetItem) -> MaybeItem
+pub fn item_after(a: KeyAt, end: RangeSetItem) -> Option<QueryItem>
     ensures { (pool : List ℕ) → result ≡ item_between pool (ExclusiveStart a) end }
 {
     match end {
-        RangeSetItem::Inclusive(b) => MaybeItem::Item(QueryItem::RangeAfterToInclusive(a, b)),
-        RangeSetItem::ExclusiveEnd(b) => MaybeItem::Item(QueryItem::RangeAfterTo(a, b)),
-        RangeSetItem::UnboundedEnd => MaybeItem::Item(QueryItem::RangeAfter(a)),
-        RangeSetItem::UnboundedStart => MaybeItem::NoItem,
-        RangeSetItem::ExclusiveStart(_) => MaybeItem::NoItem,
+        RangeSetItem::Inclusive(b) => Some(QueryItem::RangeAfterToInclusive(a, b)),
+        RangeSetItem::ExclusiveEnd(b) => Some(QueryItem::RangeAfterTo(a, b)),
+        RangeSetItem::UnboundedEnd => Some(QueryItem::RangeAfter(a)),
+        RangeSetItem::UnboundedStart => None,
+        RangeSetItem::ExclusiveStart(_) => None,
     }
 }
 
 // inner: the item that starts before every key, by its end, in every pool.
-pub fn item_to(end: RangeSetItem) -> MaybeItem
+pub fn item_to(end: RangeSetItem) -> Option<QueryItem>
     ensures { (pool : List ℕ) → result ≡ item_between pool UnboundedStart end }
 {
     match end {
-        RangeSetItem::Inclusive(b) => MaybeItem::Item(QueryItem::RangeToInclusive(b)),
-        RangeSetItem::ExclusiveEnd(b) => MaybeItem::Item(QueryItem::RangeTo(b)),
-        RangeSetItem::UnboundedEnd => MaybeItem::Item(QueryItem::RangeFull),
-        RangeSetItem::UnboundedStart => MaybeItem::NoItem,
-        RangeSetItem::ExclusiveStart(_) => MaybeItem::NoItem,
+        RangeSetItem::Inclusive(b) => Some(QueryItem::RangeToInclusive(b)),
+        RangeSetItem::ExclusiveEnd(b) => Some(QueryItem::RangeTo(b)),
+        RangeSetItem::UnboundedEnd => Some(QueryItem::RangeFull),
+        RangeSetItem::UnboundedStart => None,
+        RangeSetItem::ExclusiveStart(_) => None,
     }
 }

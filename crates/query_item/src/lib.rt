@@ -1,4 +1,4 @@
-// Module 2 of document 01: items and the boundaries of their ranges, and the types of its answers. `boundary` has boundaries as kinds beside
+// Module 2 of document 01: items and the boundaries of their ranges. `boundary` has boundaries as kinds beside
 // lent bytes, `item_check` the refusals and the checks of items and lists, `item_ask` the calls that check an item and answer.
 // Definitions: specs/Items.antt (the table, and what items show), specs/Boundaries.antt (order, conversions). Laws: proofs/Laws.antt.
 //
@@ -9,14 +9,22 @@ pub mod convert;
 pub mod pooled;
 
 // A key: a part of the pool.
-#[derive(Clone, Copy)]
+#[derive(Clone, Copy, PartialEq, Eq)]
 pub struct KeyAt {
     pub offset: u32,
     pub length: u32,
 }
 
+impl KeyAt {
+    // The key of an item or a boundary that has none: no bytes at 0.
+    pub const NONE: KeyAt = KeyAt {
+        offset: 0,
+        length: 0,
+    };
+}
+
 // The ten kinds of items.
-#[derive(Clone, Copy)]
+#[derive(Clone, Copy, PartialEq, Eq)]
 pub enum QueryItem {
     Key(KeyAt),
     Range(KeyAt, KeyAt),
@@ -31,7 +39,7 @@ pub enum QueryItem {
 }
 
 // A boundary whose key is a part of the pool; the kinds stand in the order of `BoundaryKind`.
-#[derive(Clone, Copy)]
+#[derive(Clone, Copy, PartialEq, Eq)]
 pub enum RangeSetItem {
     UnboundedStart,
     ExclusiveEnd(KeyAt),
@@ -41,21 +49,14 @@ pub enum RangeSetItem {
 }
 
 // A range by its two boundaries.
-#[derive(Clone, Copy)]
+#[derive(Clone, Copy, PartialEq, Eq)]
 pub struct RangeSet {
     pub start: RangeSetItem,
     pub end: RangeSetItem,
 }
 
-// What two boundaries make.
-#[derive(Clone, Copy)]
-pub enum MaybeItem {
-    NoItem,
-    Item(QueryItem),
-}
-
 // The six words of an item: code, wrapper, start offset, start length, end offset, end length.
-#[derive(Clone, Copy)]
+#[derive(Clone, Copy, PartialEq, Eq)]
 pub struct ItemWords {
     pub code: u32,
     pub wrapper: u32,

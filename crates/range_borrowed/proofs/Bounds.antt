@@ -1,4 +1,7 @@
 -- A bound and a key, by one comparison: neighbours in the order of boundaries have none between them. Assumes nothing.
+use Rattle.std.specs.declared.cmp.Ordering.{Ordering}
+use Rattle.std.specs.declared.cmp.Ordering.TheVariants.{Less, Equal, Greater}
+use Rattle.std.specs.Ordering.{is_lt, is_le}
 use Prim.Native.Nat.{ℕ, zero, suc}
 use mathlib.Core.Path.{◌≡◌, refl}
 use mathlib.Core.Bool.{◌||◌}
@@ -6,9 +9,7 @@ use mathlib.Core.List.{List}
 use native.Mathlib.Omega.{arith}
 use lib.Dec.{ltb}
 use borrow.Author.Tests.{le-ltb, ne_eqb}
-use Rattle.key_order.specs.declared.Ordering.{Ordering}
-use Rattle.key_order.specs.declared.Ordering.TheVariants.{Less, Equal, Greater}
-use Rattle.key_order.specs.Order.{compare_numbers, compare_keys, then_by, is_less, is_at_most}
+use Rattle.key_order.specs.Order.{compare_numbers, compare_keys, then_by}
 use Rattle.key_order.specs.Boundary.{Boundary, unbounded_start, unbounded_end, at_key, exclusive_end, inclusive, exclusive_start, compare_boundaries}
 use Rattle.boundary.specs.declared.BoundaryKind.{BoundaryKind}
 use Rattle.boundary.specs.declared.BoundaryKind.TheVariants as kind
@@ -33,24 +34,24 @@ lent_boundary pool x p q = rw (p, q, kind_of_number (kind_of x))
 
 -- ---- what a tie of keys gives
 
-less_at_most : (o : Ordering) → is_less (then_by o Less) ≡ is_at_most (then_by o Less)
+less_at_most : (o : Ordering) → is_lt (then_by o Less) ≡ is_le (then_by o Less)
 less_at_most Less = refl
 less_at_most Equal = refl
 less_at_most Greater = refl
 
-less_equal : (o : Ordering) → is_less (then_by o Less) ≡ is_at_most (then_by o Equal)
+less_equal : (o : Ordering) → is_lt (then_by o Less) ≡ is_le (then_by o Equal)
 less_equal Less = refl
 less_equal Equal = refl
 less_equal Greater = refl
 
-equal_greater : (o : Ordering) → is_less (then_by o Equal) ≡ is_at_most (then_by o Greater)
+equal_greater : (o : Ordering) → is_lt (then_by o Equal) ≡ is_le (then_by o Greater)
 equal_greater Less = refl
 equal_greater Equal = refl
 equal_greater Greater = refl
 
 -- a start is not above a key where it is below the exclusive start at that key
 pub start_below : (s : Boundary) (k : List ℕ)
-    → is_less (compare_boundaries s (at_key k exclusive_start)) ≡ is_at_most (compare_boundaries s (at_key k inclusive))
+    → is_lt (compare_boundaries s (at_key k exclusive_start)) ≡ is_le (compare_boundaries s (at_key k inclusive))
 unfolding compare_boundaries compare_numbers
 start_below unbounded_start k = refl
 start_below unbounded_end k = refl
@@ -60,7 +61,7 @@ start_below (at_key a exclusive_start) k = equal_greater (compare_keys a k)
 
 -- a key is not above an end where the exclusive end at that key is below it
 pub end_above : (e : Boundary) (k : List ℕ)
-    → is_less (compare_boundaries (at_key k exclusive_end) e) ≡ is_at_most (compare_boundaries (at_key k inclusive) e)
+    → is_lt (compare_boundaries (at_key k exclusive_end) e) ≡ is_le (compare_boundaries (at_key k inclusive) e)
 unfolding compare_boundaries compare_numbers
 end_above unbounded_start k = refl
 end_above unbounded_end k = refl

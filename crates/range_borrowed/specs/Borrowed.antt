@@ -1,7 +1,7 @@
 -- What a range is asked about a key: whether the key lies in it, whether it sits on an exclusive bound, and whether keys of the range may
 -- stand in a direction of it. Definitions only. Assumes nothing.
+use Rattle.std.specs.Ordering.{is_eq}
 use Rattle.std.specs.Prelude.{ℕ, ◌≡◌, List, Bool, true, ◌||◌}
-use Rattle.key_order.specs.Order.{is_equal}
 use Rattle.key_order.specs.Boundary.{Boundary, unbounded_start, unbounded_end, at_key, exclusive_start, exclusive_end, compare_boundaries, between}
 use Rattle.query_item.specs.declared.RangeSet.{RangeSet}
 use Rattle.query_item.specs.Items.{bytes_of, below}
@@ -33,7 +33,7 @@ Lends pool s r =
 
 -- 01 m2.3: whether the key sits on an exclusive bound: the start is ExclusiveStart, or the end ExclusiveEnd, at the key's bytes
 abbrev pub on_exclusive_bound : Boundary → Boundary → List ℕ → Bool
-on_exclusive_bound s e k = is_equal (compare_boundaries s (at_key k exclusive_start)) || is_equal (compare_boundaries (at_key k exclusive_end) e)
+on_exclusive_bound s e k = is_eq (compare_boundaries s (at_key k exclusive_start)) || is_eq (compare_boundaries (at_key k exclusive_end) e)
 
 -- 01 m2.3: the key is held; it sits on an exclusive bound
 abbrev pub result_of : Bool → Bool → KeyContainmentResult

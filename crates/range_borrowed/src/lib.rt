@@ -11,11 +11,11 @@ ghost use Rattle.range_borrowed.specs.Borrowed.{lent, lent_start, lent_end, Lend
 
 use boundary::{BoundaryKind, compare_boundaries};
 use item_words::query_item;
-use key_order::{compare, is_equal, is_less};
+use key_order::compare;
 use query_item::ItemWords;
-use query_item::pooled::{key_bytes, key_of, kind_of};
+use query_item::pooled::key_bytes;
 
-// A range by its two keys, lent, and the numbers of their kinds.
+// A range by its two keys, lent, and the numbers of their kinds, which document 01 fixes for it (01 form.10).
 #[derive(Clone, Copy)]
 pub struct RangeSetBorrowed<'a> {
     pub start: &'a [u8],
@@ -24,21 +24,21 @@ pub struct RangeSetBorrowed<'a> {
     pub end_kind: u32,
 }
 
-// How a range and a key stand: the key is held; the key sits on an exclusive bound.
-#[derive(Clone, Copy)]
+// How a range and a key stand: the key is held; the key sits on an exclusive bound. Document 01 asks for both beside one another (01 m2.3).
+#[derive(Clone, Copy, PartialEq, Eq)]
 pub struct KeyContainmentResult {
     pub included: bool,
     pub on_bounds_not_included: bool,
 }
 
 // Where keys are looked for: below the asked key, or above it.
-#[derive(Clone, Copy)]
+#[derive(Clone, Copy, PartialEq, Eq)]
 pub enum Direction {
     LeftOf,
     RightOf,
 }
 
-// inner: the number of a kind.
+// inner: the number of a kind. C has these numbers, and they stand in another order than the kinds do: no `as` gives them.
 pub fn kind_number(kind: BoundaryKind) -> u32
     ensures { result ≡ kind_number kind }
 {
@@ -90,8 +90,8 @@ pub fn contains(
         end,
     );
     KeyContainmentResult {
-        included: is_less(from) & is_less(to),
-        on_bounds_not_included: is_equal(from) | is_equal(to),
+        included: from.is_lt() & to.is_lt(),
+        on_bounds_not_included: from.is_eq() | to.is_eq(),
     }
 }
 
@@ -107,43 +107,9 @@ pub fn may_stand(
     ensures { result ≡ may_stand (lent start.now start_kind) (lent end.now end_kind) key.now direction }
 {
     match direction {
-        Direction::LeftOf => (start_kind < 2) | is_less(compare(start, key)),
-        Direction::RightOf => (end_kind < 2) | is_less(compare(key, end)),
+        Direction::LeftOf => (start_kind < 2) | compare(start, key).is_lt(),
+        Direction::RightOf => (end_kind < 2) | compare(key, end).is_lt(),
     }
-}
-
-// ---- the parts of an item's range
-
-fn start_bytes(pool: &[u8], item: ItemWords) -> &[u8]
-    ensures { result.now ≡ bytes_of pool.now (key_of (range_of item).start) }
-{
-    let set = query_item(item).to_range_set();
-    let start = set.start;
-    key_bytes(pool, key_of(start))
-}
-
-fn end_bytes(pool: &[u8], item: ItemWords) -> &[u8]
-    ensures { result.now ≡ bytes_of pool.now (key_of (range_of item).end) }
-{
-    let set = query_item(item).to_range_set();
-    let end = set.end;
-    key_bytes(pool, key_of(end))
-}
-
-fn start_kind(item: ItemWords) -> u32
-    ensures { result ≡ kind_number (kind_of (range_of item).start) }
-{
-    let set = query_item(item).to_range_set();
-    let start = set.start;
-    kind_number(kind_of(start))
-}
-
-fn end_kind(item: ItemWords) -> u32
-    ensures { result ≡ kind_number (kind_of (range_of item).end) }
-{
-    let set = query_item(item).to_range_set();
-    let end = set.end;
-    kind_number(kind_of(end))
 }
 
 // ---- the borrowed range
@@ -152,11 +118,12 @@ fn end_kind(item: ItemWords) -> u32
 pub fn to_range_set_borrowed<'a>(pool: &'a [u8], item: ItemWords) -> RangeSetBorrowed<'a>
     ensures { Lends pool.now (range_of item) result }
 {
+    let set = query_item(item).to_range_set();
     RangeSetBorrowed {
-        start: start_bytes(pool, item),
-        end: end_bytes(pool, item),
-        start_kind: start_kind(item),
-        end_kind: end_kind(item),
+        start: key_bytes(pool, set.start.key()),
+        end: key_bytes(pool, set.end.key()),
+        start_kind: kind_number(set.start.kind()),
+        end_kind: kind_number(set.end.kind()),
     }
 }
 

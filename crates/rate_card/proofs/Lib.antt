@@ -5,6 +5,5 @@ pub mod Summed
 pub mod Rates
 pub mod Split
 pub mod Reordered
-pub mod Apart
 pub mod Laws
 mod Examples

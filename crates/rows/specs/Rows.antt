@@ -3,19 +3,19 @@
 -- covered positions; P9 and P10 give these pairs as the definition `covered_pairs` computes them, and `written_pairs` and `pairs_answered` of
 -- position_query/proofs/Laws.antt say, of every query, that it writes those. Definitions only. It serves 01 rows.1
 -- and, with P6's two items as lists, 02 §2.4. Assumes nothing.
-use Rattle.std.specs.Prelude.{ℕ, ◌*◌, Bool, false, List, [], ◌∷◌, ◌++◌, map, length}
-use Rattle.key_order.specs.declared.Ordering.{Ordering}
-use Rattle.key_order.specs.declared.Ordering.TheVariants.{Less}
+use Rattle.query_item.specs.declared.QueryItem.{QueryItem}
+use Rattle.std.specs.declared.cmp.Ordering.{Ordering}
+use Rattle.std.specs.declared.cmp.Ordering.TheVariants.{Less}
+use Rattle.std.specs.Prelude.{ℕ, ◌*◌, Bool, false, List, [], ◌∷◌, ◌++◌, map, length, Option, Ok, Err}
 use Rattle.key_order.specs.Boundary.{compare_boundaries}
 use Rattle.boundary.specs.declared.BoundaryKind.TheVariants.{ExclusiveEnd, Inclusive, ExclusiveStart}
 use Rattle.query_item.specs.declared.KeyAt.{KeyAt}
 use Rattle.query_item.specs.declared.ItemWords.{ItemWords}
-use Rattle.query_item.specs.declared.MaybeItem.{MaybeItem}
 use Rattle.query_item.specs.Items.{key_at, absent, item_words, flat_all, Shown, shown}
 use Rattle.boundary.specs.Kinds.{boundary}
 use Rattle.intervals.specs.Intervals.{Interval}
 use Rattle.item_check.specs.declared.Refusal.{Refusal}
-use Rattle.item_check.specs.Checks.{Answer, answered, refused_as, Verdict, items_of}
+use Rattle.item_check.specs.Checks.{Answer, Verdict, items_of}
 use Rattle.intersect_many.specs.declared.ManyCounts.{ManyCounts}
 use Rattle.intersect.specs.declared.QueryItemIntersectionResult.{QueryItemIntersectionResult}
 use Rattle.item_lists.specs.Written.{as_items}
@@ -71,14 +71,14 @@ from_empty = item_words 4 0 absent absent
 abbrev items_shown : List ℕ → List ItemWords → List Shown
 items_shown pool its = map (shown pool) its
 
-abbrev item_shown : List ℕ → MaybeItem → List Shown
+abbrev item_shown : List ℕ → Option QueryItem → List Shown
 item_shown pool m = items_shown pool (as_items m)
 
 abbrev pair_result : List ℕ → Answer QueryItemIntersectionResult → Result
-pair_result pool (answered p) =
+pair_result pool (Ok p) =
     parts (item_shown pool p.in_both) (item_shown pool p.ours_left) (item_shown pool p.ours_right)
     (item_shown pool p.theirs_left) (item_shown pool p.theirs_right)
-pair_result pool (refused_as r) = refusing r
+pair_result pool (Err r) = refusing r
 
 abbrev pair_of : ItemWords → ItemWords → Result
 pair_of ours theirs = pair_result digits (pair_answer digits ours theirs)
@@ -109,17 +109,17 @@ abbrev room : List ℕ
 room = flat_all (full ∷ full ∷ full ∷ [])
 
 abbrev list_result : List ℕ → List ℕ → List ℕ → Answer ManyCounts → Result
-list_result pool ours theirs (answered c) =
+list_result pool ours theirs (Ok c) =
     lists (items_shown pool (shared_items pool ours theirs)) (items_shown pool (only_items pool ours theirs)) (items_shown pool (only_items pool theirs ours))
-list_result pool ours theirs (refused_as r) = refusing r
+list_result pool ours theirs (Err r) = refusing r
 
 abbrev lists_of : List ItemWords → List ItemWords → Result
 lists_of ours theirs = list_result digits (flat_all ours) (flat_all theirs) (many_answer digits (flat_all ours) (flat_all theirs) room room room)
 
 -- the pairs that a query makes, where the checks of its items accept it
 abbrev query_result : List Interval → Verdict → Result
-query_result A (answered u) = intervals A
-query_result A (refused_as r) = refusing r
+query_result A (Ok u) = intervals A
+query_result A (Err r) = refusing r
 
 abbrev pairs_of : List ℕ → List ItemWords → ℕ → List Interval
 pairs_of pool its count = covered_pairs pool count (items_of (flat_all its))
@@ -128,17 +128,17 @@ abbrev query_of : List ℕ → List ItemWords → ℕ → Result
 query_of pool its count = query_result (pairs_of pool its count) (query_verdict pool (flat_all its))
 
 abbrev contains_result : Answer Bool → Result
-contains_result (answered b) = yes_or_no b
-contains_result (refused_as r) = refusing r
+contains_result (Ok b) = yes_or_no b
+contains_result (Err r) = refusing r
 
 abbrev missing_result : Answer PositionMismatch → Result
-missing_result (answered r) = report r
-missing_result (refused_as r) = refusing r
+missing_result (Ok r) = report r
+missing_result (Err r) = refusing r
 
 -- a buffer of the list and room for three items more
 abbrev insert_result : List ItemWords → Answer ℕ → Result
-insert_result after (answered n) = list (map (shown digits) after)
-insert_result after (refused_as r) = refusing r
+insert_result after (Ok n) = list (map (shown digits) after)
+insert_result after (Err r) = refusing r
 
 abbrev insert_of : List ItemWords → ItemWords → Result
 insert_of its new =

@@ -1,8 +1,8 @@
 -- A sheet's plain form, the text of its lanes, is read as the sheet is. Assumes nothing.
+use Rattle.std.specs.Prelude.{Ok}
 use Prim.Native.Nat.{ℕ}
 use mathlib.Core.Path.{◌≡◌, sym, ◌∙◌}
 use mathlib.Core.List.{List}
-use Rattle.item_check.specs.Checks.{answered}
 use Rattle.sheet_row.specs.Lanes.{Lane, lanes, sheet_of, sheet_text}
 use Rattle.sheet_row.proofs.Laws.{plain_lanes}
 use Rattle.sheet_read.specs.declared.SheetCounts.{SheetCounts}
@@ -24,7 +24,7 @@ pub plain_again : (text : List ℕ) (ls : List Lane) → sheet_of text ≡ lanes
 plain_again text ls e = same_reading (sheet_text ls) text (plain_lanes text ls e ∙ sym e)
 
 -- and so of a text that was read, into any pool and list
-pub read_again : (text pool out : List ℕ) (c : SheetCounts) → read_answer text pool out ≡ answered c → (pool₂ out₂ : List ℕ)
+pub read_again : (text pool out : List ℕ) (c : SheetCounts) → read_answer text pool out ≡ Ok c → (pool₂ out₂ : List ℕ)
     → (read_answer (sheet_text (lanes_in text)) pool₂ out₂ ≡ read_answer text pool₂ out₂)
     × (read_pool (sheet_text (lanes_in text)) pool₂ out₂ ≡ read_pool text pool₂ out₂)
     × (read_list (sheet_text (lanes_in text)) pool₂ out₂ ≡ read_list text pool₂ out₂)

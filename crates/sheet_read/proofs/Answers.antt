@@ -1,4 +1,5 @@
 -- What reading a sheet answers and leaves, by its verdict. Assumes nothing.
+use Rattle.std.specs.Prelude.{Ok}
 use Prim.Native.Nat.{ℕ, suc, ◌+◌, ◌/◌, ◌≤◌}
 use mathlib.Core.Path.{◌≡◌, refl, sym, ap, ◌∙◌}
 use mathlib.Core.Bool.{Bool, true, false, cond, ◌||◌, false≢true}
@@ -9,13 +10,14 @@ use lib.ListN.{length}
 use lib.Dec.{ltb}
 use borrow.Author.Tests.{ltb-false, le-ltb}
 use Rattle.query_item.specs.Items.{item_size}
-use Rattle.item_check.specs.Checks.{Answer, answered, refused, refusal, Verdict, accepted, most_items, most_pool, pool_verdict, and_then}
+use Rattle.item_check.specs.Checks.{Answer, refused, refusal, accepted, most_items, most_pool, pool_verdict, and_then}
 use Rattle.item_check.proofs.Laws.{All, accepts, refuses, both_false, pool_passes}
 use Rattle.item_lists.specs.Written.{passes, put_all, Put}
 use Rattle.item_lists.proofs.Written.{put_laid}
 use Rattle.lent_text.specs.Text.{stored}
 use Rattle.lent_text.proofs.Laws.{stored_whole}
 use Rattle.sheet_row.specs.Lanes.{Lane, Sheet, lanes, bad_at, sheet_of}
+use Rattle.std.proofs.Common.{None, Ok}
 use Rattle.sheet_read.specs.declared.Measured.{Measured}
 use Rattle.sheet_read.specs.declared.SheetCounts.{SheetCounts}
 use Rattle.sheet_read.specs.Reading.{
@@ -32,8 +34,8 @@ use Rattle.sheet_read.specs.Reading.{
   read_pool,
   read_list,
 }
-use Rattle.sheet_read.specs.Passes.{measured, measure_of, measure_verdict, is_good, Readable}
-use Rattle.sheet_read.proofs.Measures.{add_rows, add_bytes, measure_verdict_lem}
+use Rattle.sheet_read.specs.Passes.{measured, add_lanes, measure_of, is_good, Readable}
+use Rattle.sheet_read.proofs.Measures.{add_rows, add_bytes}
 
 -- ---- what a sheet that is read has
 
@@ -98,32 +100,27 @@ unfolding packed_items
 length_packed at [] = refl
 length_packed at (l ∷ ls) = ap suc (length_packed (at + (length l.start + length l.end)) ls)
 
-counted : (s : Sheet) → is_good s ≡ true → (m : Measured) → m ≡ measure_of (measured 0 0 false 0) s
-    → record { items = m.rows; bytes = m.bytes } ≡ counts_of (lanes_of s)
-counted (bad_at n) g m e = absurd (false≢true g)
-counted (lanes ls) g m e =
-    let z = measured 0 0 false 0 in
-    let r : m.rows ≡ length ls = ap (λ (x : Measured). x.rows) e ∙ add_rows z ls ∙ omega arith in
-    let b : m.bytes ≡ length (packed_keys ls) = ap (λ (x : Measured). x.bytes) e ∙ add_bytes z ls ∙ omega arith in
+counted : (s : Sheet) (m : Measured) → Ok m ≡ measure_of (measured 0 0 None) s → record { items = m.rows; bytes = m.bytes } ≡ counts_of (lanes_of s)
+counted (bad_at n) m e = cc
+counted (lanes ls) m e =
+    let z = measured 0 0 None in
+    let is : m ≡ add_lanes z ls = cc in
+    let r : m.rows ≡ length ls = ap (λ (x : Measured). x.rows) is ∙ add_rows z ls ∙ omega arith in
+    let b : m.bytes ≡ length (packed_keys ls) = ap (λ (x : Measured). x.bytes) is ∙ add_bytes z ls ∙ omega arith in
     rw (r, b)
 
 -- what a call answers, and leaves in the pool and in the list
-pub leaves_read : (text pool out : List ℕ) (m : Measured) {pool' out' : List ℕ} → m ≡ measure_of (measured 0 0 false 0) (sheet_of text)
+pub leaves_read : (text pool out : List ℕ) (m : Measured) {pool' out' : List ℕ} → Ok m ≡ measure_of (measured 0 0 None) (sheet_of text)
     → accepted ≡ sheet_verdict (sheet_of text) pool out
-    → pool' ≡ stored true pool 0 (packed_keys (lanes_in text))
+    → pool' ≡ stored pool 0 (packed_keys (lanes_in text))
     → out' ≡ put_all out 0 (packed_items 0 (lanes_in text))
-    → (◌≡◌ {A = Answer SheetCounts} (answered (record { items = m.rows; bytes = m.bytes })) (read_answer text pool out))
+    → (◌≡◌ {A = Answer SheetCounts} (Ok (record { items = m.rows; bytes = m.bytes })) (read_answer text pool out))
     × ((pool' ≡ read_pool text pool out) × (out' ≡ read_list text pool out))
 leaves_read text pool out m {pool'} {out'} em h ep eo =
     let f = (reads (sheet_of text) pool out).0 (sym h) in
     let its = packed_items 0 (lanes_in text) in
     let put : Put out 0 its out' (length its) = record { count = omega arith; words = eo } in
     rw (← h) (
-      ap answered (counted (sheet_of text) f.good m em),
+      ap Ok (counted (sheet_of text) m em),
       (ep ∙ stored_whole pool (packed_keys (lanes_in text)) f.bytes, put_laid its put (rw (length_packed 0 (lanes_in text)) f.items)),
     )
-
--- a verdict by what was counted is that of the sheet
-pub told : (text : List ℕ) (m : Measured) (pool out : List ℕ) {v : Verdict} → v ≡ measure_verdict m pool out
-    → m ≡ measure_of (measured 0 0 false 0) (sheet_of text) → v ≡ sheet_verdict (sheet_of text) pool out
-told text m pool out h e = h ∙ rw e (measure_verdict_lem (sheet_of text) pool out)

@@ -1,5 +1,6 @@
 -- Items read into the rest of a pool: with the length of what stands before the rest added to the offsets of their keys, they show over the
 -- whole pool what they show over the rest. Assumes nothing.
+use Rattle.std.specs.Prelude.{Ok}
 use Prim.Native.Nat.{ℕ, ◌+◌}
 use mathlib.Core.Path.{◌≡◌, refl, sym, ap₂, ◌∙◌}
 use mathlib.Core.Bool.{Bool, true, false, cond, not, ◌&&◌}
@@ -13,7 +14,7 @@ use borrow.Author.Tests.{lt-ltb, le-ltb}
 use Rattle.query_item.specs.declared.KeyAt.{KeyAt}
 use Rattle.query_item.specs.declared.ItemWords.{ItemWords}
 use Rattle.query_item.specs.Items.{key_at, absent, bytes_of, with_keys, items_from, shown, SameShown}
-use Rattle.item_check.specs.Checks.{answered, has_start, has_end, nonzero, malformed, key_out, item_fault}
+use Rattle.item_check.specs.Checks.{has_start, has_end, nonzero, malformed, key_out, item_fault}
 use Rattle.item_check.proofs.Laws.{All, fault_parts, formed_parts, absent_in, outside_words}
 use Rattle.sheet_row.proofs.Laws.{PlainIn}
 use Rattle.sheet_read.specs.declared.SheetCounts.{SheetCounts}
@@ -76,7 +77,7 @@ module _ (front pool : List ℕ) where
           rw (same, e, outside_words (front ++ pool) it' (same ∙ e), outside_words pool it e, a, b)
 
 -- so that the items of a sheet that is read into the rest of a pool are the same by bytes over the whole pool
-pub read_behind : (front text pool out : List ℕ) (c : SheetCounts) → read_answer text pool out ≡ answered c
+pub read_behind : (front text pool out : List ℕ) (c : SheetCounts) → read_answer text pool out ≡ Ok c
     → SameShown (front ++ read_pool text pool out) (read_pool text pool out) (map (moved (length front)) (items_from (read_list text pool out) 0 c.items))
     (items_from (read_list text pool out) 0 c.items)
 read_behind front text pool out c h =

@@ -2,11 +2,9 @@
 use Prim.Native.Nat.{ℕ, zero, suc, ◌+◌, ◌*◌, ◌-◌, ◌/◌, ◌%◌, ◌≤◌, ◌<◌}
 use mathlib.Core.Path.{◌≡◌, refl}
 use mathlib.Core.Bool.{Bool, true, false, cond, not, ◌&&◌, ◌||◌, false≢true}
-use mathlib.Core.List.{List, [], ◌∷◌}
-use native.Mathlib.Numerals.{add-one}
+use mathlib.Core.List.{List, [], ◌∷◌, ◌++◌}
 use native.Mathlib.Omega.{arith}
-use lib.ListN.{length, get_or, drop, length-drop}
-use lib.Seq.{drop-cons}
+use lib.ListN.{length, get_or}
 use lib.Dec.{leb, eqb}
 use borrow.Author.Tests.{leb-true, eqb-true}
 use Rattle.lent_text.specs.Text.{stored}
@@ -40,20 +38,29 @@ value_hex c h = go (is_decimal c) (is_upper c) (is_lower c) refl refl refl h
 
 -- ---- two by two
 
-two_here : (s : List ℕ) (j : ℕ) → j + 1 < length s → drop j s ≡ get_or s j 0 ∷ get_or s (j + 1) 0 ∷ drop (j + 2) s
-two_here s j h =
-    let q : j + 2 ≡ suc (j + 1) = omega arith in
-    rw (q, drop-cons s j 0 (omega arith), ← add-one j, drop-cons s (j + 1) 0 h)
+pub digits_turn : (p r : List ℕ) → length p ≡ 2 → Digits (p ++ r)
+    → ((is_hex (get_or p 0 0) ≡ true) × (is_hex (get_or p 1 0) ≡ true)) × Digits r
+digits_turn [] r e h = absurd (omega arith)
+digits_turn (c ∷ []) r e h = absurd (omega arith)
+digits_turn (c ∷ d ∷ x ∷ p) r e h = absurd (omega arith)
+digits_turn (c ∷ d ∷ []) r e h = (
+  h 0 (omega arith),
+  λ i l.
+      let even : 2 * (i + 1) ≡ suc (suc (2 * i)) = omega arith in
+      let odd : 2 * (i + 1) + 1 ≡ suc (suc (2 * i + 1)) = omega arith in
+      let both = h (i + 1) (omega arith) in
+      (rw even at both.0, rw odd at both.1),
+)
 
-pub hex_bytes_turn : (l m s : List ℕ) (at i b : ℕ) → i < length s / 2 → b ≡ 16 * hex_value (get_or s (2 * i) 0) + hex_value (get_or s (2 * i + 1) 0)
-    → m ≡ stored true l (at + i) (b ∷ [])
-    → stored true m (at + (i + 1)) (hex_bytes (drop (2 * (i + 1)) s)) ≡ stored true l (at + i) (hex_bytes (drop (2 * i) s))
+pub bytes_turn : (l m p r : List ℕ) (at i b : ℕ) → length p ≡ 2 → b ≡ 16 * hex_value (get_or p 0 0) + hex_value (get_or p 1 0)
+    → m ≡ stored l (at + i) (b ∷ []) → stored m (at + (i + 1)) (hex_bytes r) ≡ stored l (at + i) (hex_bytes (p ++ r))
 unfolding hex_bytes
-hex_bytes_turn l m s at i b h is_b is =
-    let p : at + (i + 1) ≡ at + i + 1 = omega arith in
-    let q : 2 * (i + 1) ≡ 2 * i + 2 = omega arith in
-    rw (is, p, q, two_here s (2 * i) (omega arith), is_b)
-    (stored_append true l (at + i) ((16 * hex_value (get_or s (2 * i) 0) + hex_value (get_or s (2 * i + 1) 0)) ∷ []) (hex_bytes (drop (2 * i + 2) s)))
+bytes_turn l m [] r at i b e is_b is = absurd (omega arith)
+bytes_turn l m (c ∷ []) r at i b e is_b is = absurd (omega arith)
+bytes_turn l m (c ∷ d ∷ x ∷ p) r at i b e is_b is = absurd (omega arith)
+bytes_turn l m (c ∷ d ∷ []) r at i b e is_b is =
+    let q : at + (i + 1) ≡ at + i + 1 = omega arith in
+    rw (is, q, is_b) (stored_append l (at + i) ((16 * hex_value c + hex_value d) ∷ []) (hex_bytes r))
 
 hex_bytes_few : (s : List ℕ) → length s ≤ 1 → hex_bytes s ≡ []
 unfolding hex_bytes
@@ -61,11 +68,8 @@ hex_bytes_few [] h = refl
 hex_bytes_few (c ∷ []) h = refl
 hex_bytes_few (c ∷ d ∷ s) h = absurd (omega arith)
 
-pub hex_bytes_done : (l s : List ℕ) (at i : ℕ) → length s / 2 ≤ i → stored true l at (hex_bytes (drop (2 * i) s)) ≡ l
-hex_bytes_done l s at i h = rw (hex_bytes_few (drop (2 * i) s) (rw (length-drop (2 * i) s) (omega arith))) (stored_none true l at)
-
-pub hex_bytes_start : (l s : List ℕ) (at : ℕ) → stored true l (at + 0) (hex_bytes (drop (2 * 0) s)) ≡ stored true l at (hex_bytes s)
-hex_bytes_start l s at = let q : at + 0 ≡ at = omega arith in rw q
+pub bytes_done : (l r : List ℕ) (at : ℕ) → length r < 2 → stored l at (hex_bytes r) ≡ l
+bytes_done l r at h = rw (hex_bytes_few r (omega arith)) (stored_none l at)
 
 -- ---- the digits of a field that fits
 

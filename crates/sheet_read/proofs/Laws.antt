@@ -1,9 +1,4 @@
--- Each law that a caller cites, in the order of specs/. It is stated in the file that the line names, and passed on; the last one here. Assumes nothing.
-use mathlib.Core.Path.{◌≡◌, ap}
-use Rattle.item_check.proofs.Laws.{refused_apart}
-use Rattle.sheet_read.specs.declared.SheetAnswer.{SheetAnswer}
-use Rattle.sheet_read.specs.declared.SheetAnswer.TheVariants.{Read, Refused}
-use Rattle.sheet_read.specs.Reading.{sheet_answer_of}
+-- Each law that a caller cites, in the order of specs/. It is stated in the file that the line names, and passed on. Assumes nothing.
 -- a quoted field may be taken to end at the next quote: a row with a doubled one is bad
 pub use Rattle.sheet_read.proofs.Quotes.{first_short}
 -- packed items say the lanes whose keys are packed, and are plain; there are as many as lanes
@@ -25,10 +20,3 @@ pub use Rattle.sheet_read.proofs.Read.{read_lanes, read_plain, read_shown}
 pub use Rattle.sheet_read.proofs.Behind.{moved, item_behind, fault_behind, read_behind}
 -- the plain form of a sheet is read as the sheet is
 pub use Rattle.sheet_read.proofs.Again.{plain_again, read_again}
-
--- the numbers that an answer stands for tell any two answers apart (01 tight.1)
-pub sheet_answer_apart : (r s : SheetAnswer) → sheet_answer_of r ≡ sheet_answer_of s → r ≡ s
-sheet_answer_apart (Read m) (Read n) e = cc
-sheet_answer_apart (Read m) (Refused s) e = cc
-sheet_answer_apart (Refused r) (Read n) e = cc
-sheet_answer_apart (Refused r) (Refused s) e = ap Refused (refused_apart r s e)

@@ -1,5 +1,5 @@
 pub mod Laws
-pub mod Places
+pub mod Runs
 pub mod Quotes
 pub mod Packed
 pub mod Measures

@@ -1,17 +1,13 @@
 -- A row with a doubled quote is bad, and so a quoted field may be taken to end at the next quote. Assumes nothing.
-use Prim.Native.Nat.{ℕ, suc, ◌-◌, ◌%◌, ◌<◌}
+use Prim.Native.Nat.{ℕ, suc, ◌+◌, ◌%◌, ◌≤◌, ◌<◌}
 use mathlib.Core.Path.{◌≡◌, refl, sym, ap, ◌∙◌}
 use mathlib.Core.Bool.{Bool, true, false, cond, not, ◌||◌, ◌&&◌, and-false, or-true, false≢true}
 use mathlib.Core.List.{List, [], ◌∷◌}
-use native.Mathlib.Decide.{dec_lt}
 use native.Mathlib.Omega.{arith}
-use lib.ListN.{length, take, drop}
+use lib.ListN.{length, take, drop, length-drop}
 use lib.Dec.{eqb, ltb, leb-suc-suc}
-use borrow.Author.Tests.{ltb-true, eqb-true, lt-ltb, ne_eqb}
-use Rattle.key_order.specs.declared.Ordering.{Ordering}
-use Rattle.key_order.specs.declared.Ordering.TheVariants.{Less, Equal, Greater}
-use Rattle.key_order.specs.Order.{compare_keys, is_equal}
-use Rattle.key_order.proofs.Laws.{compare_equal}
+use borrow.Author.Tests.{eqb-true, lt-ltb, ltb-true, ne_eqb}
+use Rattle.key_order.proofs.Laws.{compare_same}
 use Rattle.query_item.specs.Items.{same}
 use Rattle.item_check.specs.Checks.{has_start, has_end}
 use Rattle.sheet_row.specs.Fields.{
@@ -23,6 +19,9 @@ use Rattle.sheet_row.specs.Fields.{
   unended,
   comma,
   quote,
+  carriage_return,
+  line_feed,
+  is_text,
   leading,
   with_byte,
   unquoted,
@@ -47,24 +46,9 @@ use Rattle.item_name.specs.Names.{
   range_after_to_inclusive_name,
   code_of,
 }
-use Rattle.sheet_row.specs.Lanes.{is_hex, all_hex, is_key, fits_field, hex_bytes, lane_of, is_lane, row, bad_row, closed, row_by, first_row}
-use Rattle.key_order.proofs.Bools.{both_true}
-use Rattle.sheet_read.specs.Scan.{
-  not_quote,
-  short_quoted,
-  short_field,
-  short_after,
-  short_next,
-  part_of,
-  split_at,
-  row_in,
-  asked,
-  FieldIn,
-  EndIn,
-  RowFound,
-}
-use Rattle.sheet_read.specs.declared.row.FieldAt.{FieldAt}
-use Rattle.sheet_read.specs.declared.row.EndAt.{EndAt}
+use Rattle.sheet_row.specs.Lanes.{is_hex, all_hex, is_key, fits_field, is_lane, bad_row, closed, row_by, first_row}
+use Rattle.sheet_read.specs.Scan.{not_quote, short_quoted, short_field, short_after, short_next}
+use Rattle.std.proofs.lemmas.List.{length-take}
 
 -- ---- no name and no key has a quote
 
@@ -73,12 +57,11 @@ has_quote [] = false
 has_quote (b ∷ s) = eqb b quote || has_quote s
 
 same_not : (f w : List ℕ) → has_quote f ≡ true → has_quote w ≡ false → same f w ≡ false
-same_not f w h e = go (compare_keys f w) refl
+same_not f w h e = go (same f w) refl
   where
-    go : (o : Ordering) → compare_keys f w ≡ o → is_equal o ≡ false
-    go Less c = refl
-    go Greater c = refl
-    go Equal c = absurd (false≢true (sym e ∙ ap has_quote (sym ((compare_equal f w).0 c)) ∙ h))
+    go : (t : Bool) → same f w ≡ t → t ≡ false
+    go true c = absurd (false≢true (sym e ∙ ap has_quote (sym ((compare_same f w).0 c)) ∙ h))
+    go false c = refl
 
 code_quote : (f : List ℕ) → has_quote f ≡ true → code_of f ≡ 10
 unfolding code_of has_quote
@@ -258,49 +241,88 @@ first_short s = names_like (field_like s)
 
 -- ---- the row that the scanner finds
 
-no_name : code_of [] ≡ 10
-unfolding code_of compare_keys
-no_name = refl
+-- how many bytes a field and the text after it have, and one more; none where there is no field
+abbrev extent : Split → ℕ
+extent (split f s) = suc (length f + length s)
+extent broken = 0
 
-pub row_found : (text : List ℕ) (at : ℕ) {n a b : FieldAt} {e : EndAt} {c : ℕ} (name : List ℕ)
-    → FieldIn text at (short_field (drop at text)) n
-    → FieldIn text n.next (short_next (split_at text n)) a
-    → FieldIn text a.next (short_next (split_at text a)) b
-    → EndIn text b.next (end_of (split_at text b)) e
-    → name ≡ part_of text n
-    → c ≡ code_of name
-    → RowFound text at (first_row (drop at text)) (asked text (record { good = e.good; code = c; start = a; end = b; next = e.next }))
-row_found text at {n} {a} {b} {e} {c} name fn fa fb fe en ec = record {
-  rows = rowed ∙ sym short;
-  on = λ q. on (both_true e.good (is_lane c (part_of text a) (part_of text b)) q).1;
-  lane = λ q. (both_true e.good (is_lane c (part_of text a) (part_of text b)) q).1;
-  start_after = omega arith;
-  start_from = fa.from;
-  end_after = omega arith;
-  end_from = fb.from;
-  end_to = omega arith;
-  next = fe.next;
-}
+abbrev reach : Ended → ℕ
+reach (ended s) = length s
+reach unended = 0
+
+part_extent : (n : ℕ) (s : List ℕ) → extent (split (take n s) (drop n s)) ≤ suc (length s)
+part_extent n s = omega (arith, length-take n s, length-drop n s)
+
+quoted_extent : (s : List ℕ) → extent (short_quoted s) ≤ length s
+unfolding short_quoted
+quoted_extent s = go (ltb (leading not_quote s) (length s)) refl
   where
-    on : is_lane c (part_of text a) (part_of text b) ≡ true → at < e.next
-    on q = elim (dec_lt n.from n.to) [
-      | yes l ↦ omega arith
-      | no l ↦
-          let z : n.to - n.from ≡ 0 = omega arith in
-          let w : c ≡ 10 = ec ∙ ap code_of (en ∙ rw z) ∙ no_name in
-          let known = (both_true (ltb c 10 && fits_field (has_start c) (part_of text a)) (fits_field (has_end c) (part_of text b)) q).0 in
-          absurd (omega (arith, ltb-true c 10 (both_true (ltb c 10) (fits_field (has_start c) (part_of text a)) known).0))
-    ]
+    n : ℕ
+    n = leading not_quote s
 
-    by : (h : Bool) (s : List ℕ)
-        → cond (h && is_lane c (part_of text a) (part_of text b)) (row (lane_of c (hex_bytes (part_of text a)) (hex_bytes (part_of text b))) s) bad_row
-        ≡ closed c (part_of text a) (part_of text b) (cond h (ended s) unended)
-    by true s = refl
-    by false s = refl
+    go : (t : Bool) → ltb n (length s) ≡ t → extent (cond t (split (take n s) (drop (suc n) s)) broken) ≤ length s
+    go true e = omega (arith, ltb-true _ _ e, length-take n s, length-drop (suc n) s)
+    go false e = omega arith
 
-    rowed : row_in text (asked text (record { good = e.good; code = c; start = a; end = b; next = e.next }))
-        ≡ row_by (split_at text n) (split_at text a) (split_at text b)
-    rowed = rw (fn.part, fa.part, fb.part, ← fe.ends, ← en, ← ec) (by e.good (drop e.next text))
+field_extent : (s : List ℕ) → extent (short_field s) ≤ suc (length s)
+unfolding short_field unquoted
+field_extent [] = omega arith
+field_extent (b ∷ s) = go (eqb b quote)
+  where
+    go : (t : Bool) → extent (cond t (short_quoted s) (unquoted (b ∷ s))) ≤ suc (suc (length s))
+    go true = omega (arith, quoted_extent s)
+    go false = part_extent (leading is_text (b ∷ s)) (b ∷ s)
 
-    short : first_row (drop at text) ≡ row_by (split_at text n) (split_at text a) (split_at text b)
-    short = first_short (drop at text) ∙ rw (← fn.splits, ← fa.splits, ← fb.splits)
+after_extent : (s : List ℕ) → extent (short_after s) ≤ length s
+unfolding short_after
+after_extent [] = omega arith
+after_extent (b ∷ s) = go (eqb b comma)
+  where
+    go : (t : Bool) → extent (cond t (short_field s) broken) ≤ suc (length s)
+    go true = field_extent s
+    go false = omega arith
+
+end_reach : (s : List ℕ) → reach (row_end s) ≤ length s
+unfolding row_end
+end_reach [] = omega arith
+end_reach (b ∷ []) = omega arith
+end_reach (b ∷ c ∷ s) = go (eqb b carriage_return && eqb c line_feed)
+  where
+    go : (t : Bool) → reach (cond t (ended s) unended) ≤ suc (suc (length s))
+    go true = omega arith
+    go false = omega arith
+
+module _ (s : List ℕ) where
+  -- a field or the end of the row is missing
+
+  pub lacks_name : broken ≡ short_field s → bad_row ≡ first_row s
+  lacks_name e = sym (first_short s ∙ rw (← e))
+
+  module _ {n s₁ : List ℕ} (fn : split n s₁ ≡ short_field s) where
+    pub lacks_start : broken ≡ short_after s₁ → bad_row ≡ first_row s
+    lacks_start e = sym (first_short s ∙ rw (← fn, ← e))
+
+    module _ {a s₂ : List ℕ} (fa : split a s₂ ≡ short_after s₁) where
+      pub lacks_end : broken ≡ short_after s₂ → bad_row ≡ first_row s
+      lacks_end e = sym (first_short s ∙ rw (← fn, ← fa, ← e))
+
+      module _ {b s₃ : List ℕ} (fb : split b s₃ ≡ short_after s₂) where
+        pub lacks_close : unended ≡ row_end s₃ → bad_row ≡ first_row s
+        lacks_close e = sym (first_short s ∙ rw (← fn, ← fa, ← fb, ← e))
+
+        module _ {t : List ℕ} (ft : ended t ≡ row_end s₃) where
+          pub row_found : closed (code_of n) a b (ended t) ≡ first_row s
+          row_found = sym (first_short s ∙ rw (← fn, ← fa, ← fb, ← ft))
+
+          pub row_shorter : length a + length b + length t < length s
+          row_shorter = omega (
+            arith,
+            ap extent fn,
+            field_extent s,
+            ap extent fa,
+            after_extent s₁,
+            ap extent fb,
+            after_extent s₂,
+            ap reach ft,
+            end_reach s₃,
+          )

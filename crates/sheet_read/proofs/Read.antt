@@ -1,5 +1,6 @@
 -- What a call that reads a sheet leaves in the pool and in the list: items that are plain, and that show the sheet's lanes, row by row.
 -- Assumes nothing.
+use Rattle.std.specs.Prelude.{Ok, Err}
 use Prim.Native.Nat.{ℕ}
 use mathlib.Core.Path.{◌≡◌, refl, sym, ap, ◌∙◌}
 use mathlib.Core.Bool.{true, false≢true}
@@ -8,7 +9,7 @@ use native.Mathlib.Omega.{arith}
 use lib.ListN.{length, drop, length-append, length-drop}
 use Rattle.query_item.specs.Items.{items_from, flat_all, shown}
 use Rattle.item_check.specs.declared.Refusal.{Refusal}
-use Rattle.item_check.specs.Checks.{Answer, answered, refused_as, accepted}
+use Rattle.item_check.specs.Checks.{Answer, accepted}
 use Rattle.item_check.proofs.Laws.{All, answers, words_answered, words_refused}
 use Rattle.item_lists.specs.Written.{laid_over}
 use Rattle.item_lists.proofs.Read.{items_read_lem}
@@ -25,7 +26,7 @@ use Rattle.sheet_read.proofs.Answers.{Reads, reads, length_packed}
 -- ---- a call that refuses
 
 -- 02 §1.9, 01 demand.1: the pool and the list are as they were
-pub read_refused : (text pool out : List ℕ) {r : Refusal} → read_answer text pool out ≡ refused_as r
+pub read_refused : (text pool out : List ℕ) {r : Refusal} → read_answer text pool out ≡ Err r
     → (read_pool text pool out ≡ pool) × (read_list text pool out ≡ out)
 read_refused text pool out e = (
   words_refused e pool (laid pool (packed_keys (lanes_in text))),
@@ -38,12 +39,12 @@ good_lanes : (s : Sheet) → is_good s ≡ true → s ≡ lanes (lanes_of s)
 good_lanes (lanes ls) g = refl
 good_lanes (bad_at n) g = absurd (false≢true g)
 
-module _ (text pool out : List ℕ) (c : SheetCounts) (h : read_answer text pool out ≡ answered c) where
+module _ (text pool out : List ℕ) (c : SheetCounts) (h : read_answer text pool out ≡ Ok c) where
   abbrev ls : List Lane
   ls = lanes_in text
 
-  passed : (sheet_verdict (sheet_of text) pool out ≡ accepted) × (◌≡◌ {A = Answer SheetCounts} (answered (counts_of ls)) (answered c))
-  passed = answers (sheet_verdict (sheet_of text) pool out) (answered (counts_of ls)) c h
+  passed : (sheet_verdict (sheet_of text) pool out ≡ accepted) × (◌≡◌ {A = Answer SheetCounts} (Ok (counts_of ls)) (Ok c))
+  passed = answers (sheet_verdict (sheet_of text) pool out) (Ok (counts_of ls)) c h
 
   -- the sheet has no bad row, its keys are short, and there is room
   pub read_passed : Reads (sheet_of text) pool out

@@ -1,4 +1,5 @@
 -- A sheet whose keys are short and whose rows are few is read exactly where there is room, as is the sheet of plain items. Assumes nothing.
+use Rattle.std.specs.Prelude.{Ok}
 use Prim.Native.Nat.{ℕ, ◌/◌, ◌≤◌}
 use mathlib.Core.Path.{◌≡◌, refl}
 use mathlib.Core.Bool.{Bool, true, false, cond, ◌||◌}
@@ -11,7 +12,7 @@ use borrow.Author.Tests.{ltb-false, le-ltb}
 use Rattle.query_item.specs.declared.KeyAt.{KeyAt}
 use Rattle.query_item.specs.declared.ItemWords.{ItemWords}
 use Rattle.query_item.specs.Items.{item_size, bytes_of}
-use Rattle.item_check.specs.Checks.{answered, refused, accepted, and_then, has_start, has_end, key_out, most_items, most_pool, most_key, pool_verdict}
+use Rattle.item_check.specs.Checks.{refused, accepted, and_then, has_start, has_end, key_out, most_items, most_pool, most_key, pool_verdict}
 use Rattle.item_check.proofs.Laws.{All, both_false, keys_in, answers}
 use Rattle.item_lists.specs.Written.{passes}
 use Rattle.sheet_row.specs.Lanes.{Lane, lane_at, lanes, sheet_of}
@@ -24,23 +25,23 @@ module _ (text : List ℕ) (ls : List Lane) (is : sheet_of text ≡ lanes ls) (s
   -- 02 §1.11, §1.13: it is refused with 1 for the pool's size and with 6 for want of room, and for nothing else
   pub read_room : read_answer text pool out
       ≡ and_then (pool_verdict pool)
-      (cond (ltb (length pool) (length (packed_keys ls)) || passes (length ls) out) (refused 6 0 0) (answered (counts_of ls)))
+      (cond (ltb (length pool) (length (packed_keys ls)) || passes (length ls) out) (refused 6 0 0) (Ok (counts_of ls)))
   read_room =
       rw (is, (long_passes 0 ls).1 short, le-ltb most_items (length ls) few)
       (go (ltb most_pool (length pool)) (ltb (length pool) (length (packed_keys ls)) || passes (length ls) out))
     where
       go : (p t : Bool)
-          → and_then (and_then (cond p (refused 1 0 0) accepted) (cond (t || false) (refused 6 0 0) accepted)) (answered (counts_of ls))
-          ≡ and_then (cond p (refused 1 0 0) accepted) (cond t (refused 6 0 0) (answered (counts_of ls)))
+          → and_then (and_then (cond p (refused 1 0 0) accepted) (cond (t || false) (refused 6 0 0) accepted)) (Ok (counts_of ls))
+          ≡ and_then (cond p (refused 1 0 0) accepted) (cond t (refused 6 0 0) (Ok (counts_of ls)))
       go true t = refl
       go false true = refl
       go false false = refl
 
-  pub read_fits : read_answer text pool out ≡ answered (counts_of ls)
+  pub read_fits : read_answer text pool out ≡ Ok (counts_of ls)
       ↔ ((length pool ≤ most_pool) × (length (packed_keys ls) ≤ length pool) × (length ls ≤ length out / item_size))
   read_fits = (
     λ e.
-        let r = (reads (lanes ls) pool out).0 (answers (sheet_verdict (lanes ls) pool out) (answered (counts_of ls)) (counts_of ls) (rw is at e)).0 in
+        let r = (reads (lanes ls) pool out).0 (answers (sheet_verdict (lanes ls) pool out) (Ok (counts_of ls)) (counts_of ls) (rw is at e)).0 in
         (r.small, r.bytes, r.items),
     λ r.
         let passed = (reads (lanes ls) pool out).1 (record { good = refl; small = r.0; short = short; bytes = r.1; items = r.2; few = few }) in

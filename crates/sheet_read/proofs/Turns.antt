@@ -1,46 +1,40 @@
 -- A turn of a pass over the rows: what is left of the sheet is the row's lane, and what is left after it. Assumes nothing.
 use Prim.Native.Nat.{ℕ, suc, ◌+◌, ◌-◌, ◌/◌, ◌≤◌, ◌<◌}
 use mathlib.Core.Path.{◌≡◌, refl, sym, ap, ◌∙◌}
-use mathlib.Core.Bool.{true, false}
+use Rattle.std.proofs.Common.{None, Ok}
+use Rattle.item_check.specs.Checks.{refused}
 use mathlib.Core.List.{List, []}
 use native.Mathlib.Numerals.{add-one}
 use native.Mathlib.Omega.{arith}
-use lib.ListN.{length, drop, length-take, length-drop, drop_of_length-le}
-use Rattle.sheet_read.specs.declared.row.FieldAt.{FieldAt}
-use Rattle.sheet_read.specs.declared.row.RowAt.{RowAt}
-use Rattle.sheet_row.specs.Lanes.{Lane, first_row, Sheet, lanes, bad_at, with_lane, then_rows, rows_from, sheet_of, hex_bytes}
-use Rattle.sheet_read.specs.Scan.{part_of, row_in, RowFound}
+use lib.ListN.{length}
+use Rattle.std.proofs.lemmas.List.{nil_from_length}
+use Rattle.std.specs.Borrow.{Bor}
+use Rattle.sheet_read.specs.declared.row.RowFields.{RowFields}
+use Rattle.sheet_row.specs.Lanes.{Lane, row, bad_row, first_row, Sheet, lanes, bad_at, with_lane, then_rows, rows_from, sheet_of}
+use Rattle.sheet_read.specs.Scan.{row_lane, Shorter}
 use Rattle.sheet_row.proofs.Laws.{rows_step, rows_none}
 use Rattle.sheet_read.specs.declared.Measured.{Measured}
-use Rattle.sheet_read.specs.Passes.{measured, bad_measure, add_keys, add_lanes, measure_of, row_lane, Adds}
+use Rattle.sheet_read.specs.Passes.{measured, add_keys, add_lanes, measure_of}
 use Rattle.sheet_read.proofs.Measures.{length_hex_bytes}
 
--- what is left of a sheet from a place on, n rows passed
-abbrev pub left : List ℕ → ℕ → ℕ → Sheet
-left text n at = rows_from (length text - n) n (drop at text)
+-- what is left of a sheet that has so many bytes, n rows passed
+abbrev pub left : ℕ → ℕ → List ℕ → Sheet
+left k n s = rows_from (k - n) n s
 
-length_part : (text : List ℕ) (f : FieldAt) → f.to ≤ length text → length (hex_bytes (part_of text f)) ≡ (f.to - f.from) / 2
-length_part text f h =
-    length_hex_bytes (part_of text f)
-    ∙ ap (λ (k : ℕ). k / 2) (length-take (f.to - f.from) (drop f.from text) ∙ rw (length-drop f.from text) (omega arith))
-
-module _ (text : List ℕ) (n at : ℕ) (r : RowAt) (h : at < length text) (few : n ≤ at) (found : RowFound text at (first_row (drop at text)) r) where
-  left_row : left text n at ≡ then_rows n (rows_from (length text - (n + 1)) (n + 1)) (row_in text r)
+module _ (k n : ℕ) (s : List ℕ) (some : 0 < length s) (few : n + length s ≤ k) where
+  left_row : left k n s ≡ then_rows n (rows_from (k - (n + 1)) (n + 1)) (first_row s)
   left_row =
-      let k : length text - n ≡ suc (length text - (n + 1)) = omega arith in
-      rw (k, found.rows, add-one n) (rows_step (length text - suc n) n (drop at text) (rw (length-drop at text) (omega arith)))
+      let q : k - n ≡ suc (k - (n + 1)) = omega arith in
+      rw (q, add-one n) (rows_step (k - suc n) n s some)
 
-  pub left_good : r.good ≡ true → left text n at ≡ with_lane (row_lane text r) (left text (n + 1) r.next)
-  left_good g = left_row ∙ rw g
+  pub left_good : {l : Lane} {t : List ℕ} → row l t ≡ first_row s → left k n s ≡ with_lane l (left k (n + 1) t)
+  left_good e = left_row ∙ rw (← e)
 
-  pub left_bad : r.good ≡ false → left text n at ≡ bad_at n
-  left_bad g = left_row ∙ rw g
+  pub left_bad : bad_row ≡ first_row s → left k n s ≡ bad_at n
+  left_bad e = left_row ∙ rw (← e)
 
-pub left_none : (text : List ℕ) (n at : ℕ) → length text ≤ at → left text n at ≡ lanes []
-left_none text n at h = rw (drop_of_length-le text {i = at} h) (rows_none (length text - n) n)
-
-pub left_all : (text : List ℕ) → left text 0 0 ≡ sheet_of text
-left_all text = let z : length text - 0 ≡ length text = omega arith in rw z
+pub left_none : (k n : ℕ) (s : List ℕ) → length s ≡ 0 → left k n s ≡ lanes []
+left_none k n s h = rw (nil_from_length s h) (rows_none (k - n) n)
 
 -- ---- counting
 
@@ -49,41 +43,30 @@ unfolding add_lanes
 measure_lane m l (lanes ls) = refl
 measure_lane m l (bad_at n) = refl
 
--- a pass at a place: m counts what is passed
-pub record Measuring (text : List ℕ) (m : Measured) (at : ℕ) : Type 0 where
-  pub within : at ≤ length text
-  pub rows : m.rows ≤ at
-  pub bytes : m.bytes ≤ at
-  pub whole : measure_of (measured 0 0 false 0) (sheet_of text) ≡ measure_of m (left text m.rows at)
+-- a pass over what is left: m counts what is passed
+pub record Measuring (text : List ℕ) (m : Measured) (s : List ℕ) : Type 0 where
+  pub rows : m.rows + length s ≤ length text
+  pub bytes : m.bytes + length s ≤ length text
+  pub whole : measure_of (measured 0 0 None) (sheet_of text) ≡ measure_of m (left (length text) m.rows s)
 
-pub measuring_start : (text : List ℕ) → Measuring text (measured 0 0 false 0) 0
-measuring_start text = record { within = omega arith; rows = omega arith; bytes = omega arith; whole = rw (left_all text) }
-
-module _ {text : List ℕ} {m : Measured} {at : ℕ} (v : Measuring text m at) where
-  pub measuring_end : length text ≤ at → m ≡ measure_of (measured 0 0 false 0) (sheet_of text)
+module _ {text : List ℕ} {m : Measured} {s : List ℕ} (v : Measuring text m s) where
+  pub measuring_end : length s ≡ 0 → Ok m ≡ measure_of (measured 0 0 None) (sheet_of text)
   unfolding add_lanes
-  measuring_end h = sym (v.whole ∙ rw (left_none text m.rows at h))
+  measuring_end h = sym (v.whole ∙ rw (left_none (length text) m.rows s h))
 
-  module _ {r : RowAt} (h : at < length text) (found : RowFound text at (first_row (drop at text)) r) where
-    pub measuring_bad : r.good ≡ false → bad_measure m.rows ≡ measure_of (measured 0 0 false 0) (sheet_of text)
-    measuring_bad g = sym (v.whole ∙ rw (left_bad text m.rows at r h v.rows found g))
+  pub measuring_bad : 0 < length s → bad_row ≡ first_row s → refused 12 0 m.rows ≡ measure_of (measured 0 0 None) (sheet_of text)
+  measuring_bad some e = sym (v.whole ∙ rw (left_bad (length text) m.rows s some v.rows e))
 
-    pub measuring_adds : r.good ≡ true → Adds m r
-    measuring_adds g =
-        let on = found.on g in
-        record { rows = omega arith; bytes = omega arith; start = found.start_from; end = found.end_from }
-
-    pub measuring_more : {o : Measured} → r.good ≡ true
-        → o ≡ add_keys m ((r.start.to - r.start.from) / 2) ((r.end.to - r.end.from) / 2) → Measuring text o r.next
-    measuring_more {o} g e =
-        let on = found.on g in
-        let a = length_part text r.start (omega arith) in
-        let b = length_part text r.end (omega arith) in
-        let here = ap (measure_of m) (left_good text m.rows at r h v.rows found g) in
-        let lane = measure_lane m (row_lane text r) (left text (m.rows + 1) r.next) in
-        rw e record {
-          within = found.next;
-          rows = omega arith;
-          bytes = omega arith;
-          whole = v.whole ∙ here ∙ lane ∙ rw (a, b);
-        }
+  pub measuring_more : (r : RowFields) (t : Bor (List ℕ)) {o : Measured} → row (row_lane r) t.now ≡ first_row s → Shorter s (r, t)
+      → o ≡ add_keys m (length r.start.now / 2) (length r.end.now / 2) → Measuring text o t.now
+  measuring_more r t e short q =
+      let some : 0 < length s = omega (arith, short) in
+      let a = length_hex_bytes r.start.now in
+      let b = length_hex_bytes r.end.now in
+      let here = ap (measure_of m) (left_good (length text) m.rows s some v.rows e) in
+      let one = measure_lane m (row_lane r) (left (length text) (m.rows + 1) t.now) in
+      rw q record {
+        rows = omega (arith, v.rows);
+        bytes = omega (arith, v.bytes);
+        whole = v.whole ∙ here ∙ one ∙ rw (a, b);
+      }

@@ -1,30 +1,14 @@
 -- A sheet read into a pool and a list of items: the keys packed, the items that name them, the refusals, and what is left in all that is lent.
 -- Definitions only. Assumes nothing.
-use Rattle.std.specs.Prelude.{ℕ, suc, ◌+◌, Bool, cond, ◌||◌, List, [], ◌∷◌, ◌++◌, length, ltb}
+use Rattle.std.specs.Prelude.{ℕ, suc, ◌+◌, Bool, cond, ◌||◌, List, [], ◌∷◌, ◌++◌, length, ltb, Ok}
 use Rattle.query_item.specs.declared.KeyAt.{KeyAt}
 use Rattle.query_item.specs.declared.ItemWords.{ItemWords}
 use Rattle.query_item.specs.Items.{key_at, absent, item_words}
-use Rattle.item_check.specs.Checks.{
-  Answer,
-  answered,
-  refused,
-  Verdict,
-  accepted,
-  and_then,
-  words_by,
-  refused_as,
-  has_start,
-  has_end,
-  most_items,
-  most_key,
-  pool_verdict,
-}
+use Rattle.item_check.specs.Checks.{Answer, refused, Verdict, accepted, and_then, words_by, has_start, has_end, most_items, most_key, pool_verdict}
 use Rattle.item_lists.specs.Written.{passes, written}
 use Rattle.lent_text.specs.Text.{laid}
 use Rattle.sheet_row.specs.Lanes.{Lane, Sheet, lanes, bad_at, sheet_of}
 use Rattle.sheet_read.specs.declared.SheetCounts.{SheetCounts}
-use Rattle.sheet_read.specs.declared.SheetAnswer.{SheetAnswer}
-use Rattle.sheet_read.specs.declared.SheetAnswer.TheVariants as sheet-answer
 
 -- ---- keys and items
 
@@ -84,7 +68,7 @@ abbrev pub counts_of : List Lane → SheetCounts
 counts_of ls = record { items = length ls; bytes = length (packed_keys ls) }
 
 abbrev pub read_answer : List ℕ → List ℕ → List ℕ → Answer SheetCounts
-read_answer text pool out = and_then (sheet_verdict (sheet_of text) pool out) (answered (counts_of (lanes_in text)))
+read_answer text pool out = and_then (sheet_verdict (sheet_of text) pool out) (Ok (counts_of (lanes_in text)))
 
 -- 02 §1.9, 01 demand.1: the keys over the front of the pool, and the items over that of the list; a refusal leaves both
 
@@ -93,8 +77,3 @@ read_pool text pool out = words_by (read_answer text pool out) pool (laid pool (
 
 abbrev pub read_list : List ℕ → List ℕ → List ℕ → List ℕ
 read_list text pool out = written (read_answer text pool out) (packed_items 0 (lanes_in text)) out
-
--- 01 form.11: the paper's numbers for each case of the call's answer
-abbrev pub sheet_answer_of : SheetAnswer → Answer SheetCounts
-sheet_answer_of (sheet-answer.Read c) = answered c
-sheet_answer_of (sheet-answer.Refused r) = refused_as r

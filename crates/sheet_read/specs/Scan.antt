@@ -1,11 +1,10 @@
--- What the scanner finds, by places in the text. No promise of a public call cites this. Definitions only. It serves 02 §1.1, §1.4.
+-- What the scanner finds in what is left of a text. No promise of a public call cites this. Definitions only. It serves 02 §1.1, §1.4.
 -- Assumes nothing.
-use Rattle.std.specs.Prelude.{ℕ, suc, ◌-◌, ◌≤◌, ◌<◌, ◌≡◌, Bool, true, false, cond, not, ◌&&◌, List, [], ◌∷◌, length, take, drop, eqb, ltb}
-use Rattle.sheet_row.specs.Fields.{Split, split, broken, Ended, ended, unended, comma, quote, leading, unquoted, content}
-use Rattle.sheet_row.specs.Lanes.{is_lane, Row, row, bad_row, lane_of, hex_bytes}
-use Rattle.sheet_read.specs.declared.row.FieldAt.{FieldAt}
-use Rattle.sheet_read.specs.declared.row.EndAt.{EndAt}
-use Rattle.sheet_read.specs.declared.row.RowAt.{RowAt}
+use Rattle.std.specs.Borrow.{Bor}
+use Rattle.std.specs.Prelude.{ℕ, suc, ◌+◌, ◌<◌, Bool, cond, not, Option, Some, None, List, [], ◌∷◌, length, take, drop, eqb, ltb}
+use Rattle.sheet_row.specs.Fields.{Split, split, broken, Ended, ended, unended, comma, quote, leading, unquoted}
+use Rattle.sheet_row.specs.Lanes.{Lane, Row, row, bad_row, closed, lane_of, hex_bytes}
+use Rattle.sheet_read.specs.declared.row.RowFields.{RowFields}
 
 abbrev pub not_quote : ℕ → Bool
 not_quote b = not (eqb b quote)
@@ -27,66 +26,30 @@ abbrev pub short_next : Split → Split
 short_next (split f s) = short_after s
 short_next broken = broken
 
--- ---- by places
+-- ---- what is read: a part of the text, and what is left behind it
 
-abbrev pub no_field : ℕ → FieldAt
-no_field at = record { good = false; from = at; to = at; next = at }
+abbrev pub split_of : Option (Bor (List ℕ) × Bor (List ℕ)) → Split
+split_of (Some p) = split p.0.now p.1.now
+split_of None = broken
 
-abbrev pub field_at : ℕ → ℕ → ℕ → FieldAt
-field_at from to next = record { good = true; from = from; to = to; next = next }
+abbrev pub ended_of : Option (Bor (List ℕ)) → Ended
+ended_of (Some s) = ended s.now
+ended_of None = unended
 
-abbrev pub no_end : ℕ → EndAt
-no_end at = record { good = false; next = at }
+-- the lane of a row that was read
+abbrev pub row_lane : RowFields → Lane
+row_lane r = lane_of r.code (hex_bytes r.start.now) (hex_bytes r.end.now)
 
-abbrev pub ends : ℕ → EndAt
-ends next = record { good = true; next = next }
+-- a row that is good
+abbrev pub row_of : Option (RowFields × Bor (List ℕ)) → Row
+row_of (Some p) = row (row_lane p.0) p.1.now
+row_of None = bad_row
 
-abbrev pub part_of : List ℕ → FieldAt → List ℕ
-part_of text f = take (f.to - f.from) (drop f.from text)
+-- a row whose fields were read, asked whether they say a lane
+abbrev pub asked_row : Option (RowFields × Bor (List ℕ)) → Row
+asked_row (Some p) = closed p.0.code p.0.start.now p.0.end.now (ended p.1.now)
+asked_row None = bad_row
 
-abbrev pub split_at : List ℕ → FieldAt → Split
-split_at text f = cond f.good (split (part_of text f) (drop f.next text)) broken
-
-abbrev pub end_at : List ℕ → EndAt → Ended
-end_at text e = cond e.good (ended (drop e.next text)) unended
-
--- a row whose places are found, asked whether its fields say a lane
-abbrev pub asked : List ℕ → RowAt → RowAt
-asked text r = record {
-  good = r.good && is_lane r.code (part_of text r.start) (part_of text r.end);
-  code = r.code;
-  start = r.start;
-  end = r.end;
-  next = r.next;
-}
-
--- a row that was read: its lane, and the text after it
-abbrev pub row_in : List ℕ → RowAt → Row
-row_in text r =
-    cond r.good (row (lane_of r.code (hex_bytes (part_of text r.start)) (hex_bytes (part_of text r.end))) (drop r.next text)) bad_row
-
--- a field that was found from a place on, with its places in the text
-pub record FieldIn (text : List ℕ) (at : ℕ) (c : Split) (f : FieldAt) : Type 0 where
-  pub splits : split_at text f ≡ c
-  pub part : content (split_at text f) ≡ part_of text f
-  pub after : at ≤ f.from
-  pub from : f.from ≤ f.to
-  pub to : f.to ≤ f.next
-  pub next : f.next ≤ length text
-
-pub record EndIn (text : List ℕ) (at : ℕ) (c : Ended) (e : EndAt) : Type 0 where
-  pub ends : end_at text e ≡ c
-  pub after : at ≤ e.next
-  pub next : e.next ≤ length text
-
--- a row that was found from a place on: its fields stand one after the other, and a good one takes a byte at least
-pub record RowFound (text : List ℕ) (at : ℕ) (c : Row) (r : RowAt) : Type 0 where
-  pub rows : row_in text r ≡ c
-  pub on : r.good ≡ true → at < r.next
-  pub lane : r.good ≡ true → is_lane r.code (part_of text r.start) (part_of text r.end) ≡ true
-  pub start_after : at ≤ r.start.from
-  pub start_from : r.start.from ≤ r.start.to
-  pub end_after : r.start.to ≤ r.end.from
-  pub end_from : r.end.from ≤ r.end.to
-  pub end_to : r.end.to ≤ r.next
-  pub next : r.next ≤ length text
+-- a row takes a byte at least, besides its fields
+abbrev pub Shorter : List ℕ → RowFields × Bor (List ℕ) → Type 0
+Shorter s p = length p.0.start.now + length p.0.end.now + length p.1.now < length s

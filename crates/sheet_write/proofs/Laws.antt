@@ -1,9 +1,4 @@
--- Each law that a caller cites, in the order of specs/. It is stated in the file that the line names, and passed on; the last one here. Assumes nothing.
-use mathlib.Core.Path.{◌≡◌, ap}
-use Rattle.item_check.proofs.Laws.{refused_apart}
-use Rattle.sheet_write.specs.declared.SheetWritten.{SheetWritten}
-use Rattle.sheet_write.specs.declared.SheetWritten.TheVariants.{Bytes, Refused}
-use Rattle.sheet_write.specs.Writing.{sheet_written_of}
+-- Each law that a caller cites, in the order of specs/. It is stated in the file that the line names, and passed on. Assumes nothing.
 -- what is accepted to be written: plain items, by one and by the list
 pub use Rattle.sheet_write.proofs.Plain.{plain_parts, PlainList, plain_list}
 -- beside the algebra: a list that can be written is accepted where it is upright and in order, and an accepted one without wrappers can be written
@@ -16,10 +11,3 @@ pub use Rattle.sheet_write.proofs.Round.{written_plain, written_length, written_
 pub use Rattle.sheet_write.proofs.Round.{written_answer, written_fits, written_read}
 -- what was read is accepted to be written, and is written in the plain form of its sheet
 pub use Rattle.sheet_write.proofs.Round.{read_accepted, read_checked, read_text, read_written}
-
--- the numbers that an answer stands for tell any two answers apart (01 tight.1)
-pub sheet_written_apart : (r s : SheetWritten) → sheet_written_of r ≡ sheet_written_of s → r ≡ s
-sheet_written_apart (Bytes m) (Bytes n) e = cc
-sheet_written_apart (Bytes m) (Refused s) e = cc
-sheet_written_apart (Refused r) (Bytes n) e = cc
-sheet_written_apart (Refused r) (Refused s) e = ap Refused (refused_apart r s e)

@@ -1,5 +1,6 @@
 -- What is accepted to be written: whole items, not too many, each of them plain. Assumes nothing.
-use Prim.Native.Nat.{ℕ, ◌/◌, ◌%◌, ◌≤◌}
+use Prim.Native.Nat.{ℕ, ◌+◌, ◌-◌, ◌/◌, ◌%◌, ◌≤◌, ◌<◌}
+use native.Mathlib.Numerals.{add-one}
 use mathlib.Core.Path.{◌≡◌, refl}
 use mathlib.Core.Bool.{Bool, true, false, cond, not}
 use mathlib.Core.List.{List, [], ◌∷◌}
@@ -9,10 +10,13 @@ use lib.ListN.{length}
 use lib.Dec.{eqb}
 use borrow.Author.Tests.{eqb-true}
 use Rattle.query_item.specs.declared.ItemWords.{ItemWords}
-use Rattle.query_item.specs.Items.{item_size}
+use Rattle.query_item.specs.Items.{item_size, item_at, items_from}
 use Rattle.query_item.specs.Boundaries.{range_of, upright}
 use Rattle.item_check.specs.Checks.{
+  Verdict,
   accepted,
+  and_then,
+  fault_at,
   most_items,
   most_pool,
   wrapped,
@@ -23,7 +27,7 @@ use Rattle.item_check.specs.Checks.{
   first_bad,
   items_of,
 }
-use Rattle.item_check.proofs.Laws.{All, AllSound, InOrder, accepts, items_pass, shape_passes, pool_passes, first_none, sound_parts}
+use Rattle.item_check.proofs.Laws.{items_more, All, AllSound, InOrder, accepts, items_pass, shape_passes, pool_passes, first_none, sound_parts}
 use Rattle.item_lists.specs.Lists.{Accepted}
 use Rattle.item_lists.proofs.Accepted.{accepted_pool, list_of, accepted_side}
 use Rattle.sheet_row.proofs.Laws.{PlainIn}
@@ -48,6 +52,12 @@ module _ (pool : List ℕ) where
       let one = plain_parts it in
       let rest = each_plain its in
       (λ a. (one.0 a.0, rest.0 a.1), λ a. (one.1 a.0, rest.1 a.1))
+
+-- the items from an index on: the first of them decides, or those after it
+pub plain_step : (pool ws : List ℕ) (i count : ℕ) {it : ItemWords} {v : Verdict} → i < count → it ≡ item_at ws i → fault_at (plain_fault pool it) 0 i ≡ v
+    → first_bad (plain_fault pool) 0 i (items_from ws i (count - i)) ≡ and_then v (first_bad (plain_fault pool) 0 (i + 1) (items_from ws (i + 1) (count - (i + 1))))
+unfolding first_bad
+plain_step pool ws i count h e is = rw (items_more ws i count h, ← e, is, add-one i)
 
 -- what a list that is accepted has
 pub record PlainList (pool ws : List ℕ) : Type 0 where

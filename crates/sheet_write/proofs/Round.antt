@@ -1,5 +1,6 @@
 -- Both calls, one after the other: what was written is read to the same items by bytes, and what was read is written in its plain form.
 -- Assumes nothing.
+use Rattle.std.specs.Prelude.{Ok, Err}
 use Prim.Native.Nat.{ℕ, ◌*◌, ◌/◌, ◌≤◌}
 use mathlib.Core.Path.{◌≡◌, sym, ap, ◌∙◌}
 use mathlib.Core.Bool.{Bool, true, false, cond, ◌||◌}
@@ -12,7 +13,7 @@ use lib.Dec.{ltb}
 use Rattle.query_item.specs.Items.{item_size, items_from, SameShown}
 use Rattle.query_item.specs.Boundaries.{range_of, upright}
 use Rattle.item_check.specs.declared.Refusal.{Refusal}
-use Rattle.item_check.specs.Checks.{Answer, answered, refused, refused_as, accepted, and_then, most_items, most_pool, pool_verdict, items_of}
+use Rattle.item_check.specs.Checks.{Answer, refused, accepted, and_then, most_items, most_pool, pool_verdict, items_of}
 use Rattle.item_check.proofs.Laws.{All, InOrder, answers, words_answered, words_refused}
 use Rattle.item_lists.specs.Lists.{Accepted}
 use Rattle.item_lists.specs.Written.{passes}
@@ -28,13 +29,13 @@ use Rattle.sheet_write.specs.Writing.{plain_verdict, text_room, room_bytes, list
 use Rattle.sheet_write.proofs.Plain.{PlainList, plain_list, plain_checked}
 
 -- 02 §1.9, 01 demand.1: where writing refuses, the bytes are as they were
-pub write_refused : (pool ws out : List ℕ) {r : Refusal} → write_answer pool ws out ≡ refused_as r → write_bytes pool ws out ≡ out
+pub write_refused : (pool ws out : List ℕ) {r : Refusal} → write_answer pool ws out ≡ Err r → write_bytes pool ws out ≡ out
 write_refused pool ws out e = words_refused e out (laid out (list_text pool ws))
 
 -- ---- what was written is read
 
-module _ (pool ws out : List ℕ) (n : ℕ) (h : write_answer pool ws out ≡ answered n) where
-  passed : (plain_verdict pool ws ≡ accepted) × (text_room (list_text pool ws) out ≡ answered n)
+module _ (pool ws out : List ℕ) (n : ℕ) (h : write_answer pool ws out ≡ Ok n) where
+  passed : (plain_verdict pool ws ≡ accepted) × (text_room (list_text pool ws) out ≡ Ok n)
   passed = answers (plain_verdict pool ws) (text_room (list_text pool ws) out) n h
 
   pub written_plain : PlainList pool ws
@@ -44,7 +45,7 @@ module _ (pool ws out : List ℕ) (n : ℕ) (h : write_answer pool ws out ≡ an
   pub written_length : length (list_text pool ws) ≡ n
   written_length = go (ltb (length out) (length (list_text pool ws))) passed.1
     where
-      go : (t : Bool) → ◌≡◌ {A = Answer ℕ} (cond t (refused 6 0 0) (answered (length (list_text pool ws)))) (answered n)
+      go : (t : Bool) → ◌≡◌ {A = Answer ℕ} (cond t (refused 6 0 0) (Ok (length (list_text pool ws)))) (Ok n)
           → length (list_text pool ws) ≡ n
       go true e = cc
       go false e = cc
@@ -75,13 +76,13 @@ module _ (pool ws out : List ℕ) (n : ℕ) (h : write_answer pool ws out ≡ an
           ≡ and_then (pool_verdict pool₂)
           (cond (ltb (length pool₂) (length (packed_keys (map (lane_at pool) (items_of ws)))) || passes (length (items_of ws)) out₂)
           (refused 6 0 0)
-          (answered (record { items = length (items_of ws); bytes = length (packed_keys (map (lane_at pool) (items_of ws))) })))
+          (Ok (record { items = length (items_of ws); bytes = length (packed_keys (map (lane_at pool) (items_of ws))) })))
       written_answer =
           rw many at (read_room (take n (write_bytes pool ws out)) said sheet (lanes_short pool (items_of ws) written_plain.plain) few pool₂ out₂)
 
       -- that is, exactly where there is room for its keys and its items, in a pool that is accepted
       pub written_fits : read_answer (take n (write_bytes pool ws out)) pool₂ out₂
-          ≡ answered (record { items = length (items_of ws); bytes = length (packed_keys (map (lane_at pool) (items_of ws))) })
+          ≡ Ok (record { items = length (items_of ws); bytes = length (packed_keys (map (lane_at pool) (items_of ws))) })
           ↔ ((length pool₂ ≤ most_pool)
           × (length (packed_keys (map (lane_at pool) (items_of ws))) ≤ length pool₂)
           × (length (items_of ws) ≤ length out₂ / item_size))
@@ -89,7 +90,7 @@ module _ (pool ws out : List ℕ) (n : ℕ) (h : write_answer pool ws out ≡ an
           rw many at (read_fits (take n (write_bytes pool ws out)) said sheet (lanes_short pool (items_of ws) written_plain.plain) few pool₂ out₂)
 
       -- 02 §1.10: the items are as many, and the same by bytes: code, wrapper, start bytes, end bytes
-      pub written_read : (c : SheetCounts) → read_answer (take n (write_bytes pool ws out)) pool₂ out₂ ≡ answered c
+      pub written_read : (c : SheetCounts) → read_answer (take n (write_bytes pool ws out)) pool₂ out₂ ≡ Ok c
           → (c.items ≡ length (items_of ws))
           × SameShown (read_pool (take n (write_bytes pool ws out)) pool₂ out₂) pool
           (items_from (read_list (take n (write_bytes pool ws out)) pool₂ out₂) 0 c.items) (items_of ws)
@@ -102,7 +103,7 @@ module _ (pool ws out : List ℕ) (n : ℕ) (h : write_answer pool ws out ≡ an
 
 -- ---- what was read is written
 
-module _ (text pool out : List ℕ) (c : SheetCounts) (h : read_answer text pool out ≡ answered c) where
+module _ (text pool out : List ℕ) (c : SheetCounts) (h : read_answer text pool out ≡ Ok c) where
   abbrev pool' : List ℕ
   pool' = read_pool text pool out
 

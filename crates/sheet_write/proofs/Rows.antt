@@ -1,7 +1,6 @@
 -- Rows stored one after another: storing what is left gives what storing the whole gives. Assumes nothing.
 use Prim.Native.Nat.{ℕ, suc, ◌+◌, ◌*◌, ◌-◌, ◌≤◌, ◌<◌}
-use mathlib.Core.Path.{◌≡◌, refl, sym, ap, ◌∙◌}
-use mathlib.Core.Bool.{Bool}
+use mathlib.Core.Path.{◌≡◌, sym, ap, ◌∙◌}
 use mathlib.Core.List.{List, [], ◌++◌}
 use native.Mathlib.Numerals.{add-one}
 use native.Mathlib.Omega.{arith}
@@ -21,36 +20,26 @@ rest_none : (pool ws : List ℕ) (i count : ℕ) → count ≤ i → items_text 
 unfolding items_from sheet_text
 rest_none pool ws i count h = let k : count - i ≡ 0 = omega arith in rw k
 
-pub record Writes (pool ws : List ℕ) (count : ℕ) (w : Bool) (out₀ out : List ℕ) (at i : ℕ) : Type 0 where
-  pub within : i ≤ count
+pub record Writes (pool ws : List ℕ) (count : ℕ) (out₀ out : List ℕ) (at i : ℕ) : Type 0 where
   pub few : at ≤ i * 17179869300
-  pub same : length out ≡ length out₀
   pub long : at + length (items_text pool (items_from ws i (count - i))) ≡ length (items_text pool (items_from ws 0 count))
-  pub bytes : stored w out at (items_text pool (items_from ws i (count - i))) ≡ stored w out₀ 0 (items_text pool (items_from ws 0 count))
+  pub bytes : stored out at (items_text pool (items_from ws i (count - i))) ≡ stored out₀ 0 (items_text pool (items_from ws 0 count))
 
-pub writes_start : (pool ws : List ℕ) (count : ℕ) (w : Bool) (out : List ℕ) → Writes pool ws count w out out 0 0
-writes_start pool ws count w out =
-    let z : count - 0 ≡ count = omega arith in
-    record { within = omega arith; few = omega arith; same = refl; long = rw z (omega arith); bytes = rw z }
-
-module _ {pool ws : List ℕ} {count : ℕ} {w : Bool} {out₀ out : List ℕ} {at i : ℕ} (v : Writes pool ws count w out₀ out at i) where
+module _ {pool ws : List ℕ} {count : ℕ} {out₀ out : List ℕ} {at i : ℕ} (v : Writes pool ws count out₀ out at i) where
   pub writes_end : count ≤ i
-      → (at ≡ length (items_text pool (items_from ws 0 count))) × (out ≡ stored w out₀ 0 (items_text pool (items_from ws 0 count)))
+      → (at ≡ length (items_text pool (items_from ws 0 count))) × (out ≡ stored out₀ 0 (items_text pool (items_from ws 0 count)))
   writes_end h =
       let none = rest_none pool ws i count h in
-      (omega (arith, v.long, ap length none), rw (none, stored_none w out at) at v.bytes)
+      (omega (arith, v.long, ap length none), rw (none, stored_none out at) at v.bytes)
 
   pub writes_more : {out' : List ℕ} {n : ℕ} → i < count → n ≡ length (row_text (lane_at pool (item_at ws i)))
-      → out' ≡ stored w out at (row_text (lane_at pool (item_at ws i))) → n ≤ 17179869300 → length out' ≡ length out
-      → Writes pool ws count w out₀ out' (at + n) (i + 1)
-  writes_more {out'} {n} h en eo small lo =
+      → out' ≡ stored out at (row_text (lane_at pool (item_at ws i))) → n ≤ 17179869300 → Writes pool ws count out₀ out' (at + n) (i + 1)
+  writes_more {out'} {n} h en eo small =
       let R = row_text (lane_at pool (item_at ws i)) in
       let S = items_text pool (items_from ws (i + 1) (count - (i + 1))) in
       let turn = rest_turn pool ws i count h in
       record {
-        within = omega arith;
         few = omega (arith, v.few);
-        same = lo ∙ v.same;
         long = omega (arith, v.long, ap length turn, length-append R S);
-        bytes = rw (eo, en) (stored_append w out at R S) ∙ ap (λ (t : List ℕ). stored w out at t) (sym turn) ∙ v.bytes;
+        bytes = rw (eo, en) (stored_append out at R S) ∙ ap (λ (t : List ℕ). stored out at t) (sym turn) ∙ v.bytes;
       }

@@ -32,25 +32,25 @@ row_parts pool it =
     ap₂ (λ (a b : List ℕ). name_of it.code ++ ((comma ∷ a) ++ ((comma ∷ b) ++ crlf)))
     (field_same (has_start it.code) (bytes_of pool it.start)) (field_same (has_end it.code) (bytes_of pool it.end))
 
-four : (w : Bool) (l m o p q : List ℕ) (at a b c d : ℕ) (xs ys zs us : List ℕ)
-    → m ≡ stored w l at xs → a ≡ length xs → o ≡ stored w m (at + a) ys → b ≡ length ys
-    → p ≡ stored w o (at + a + b) zs → c ≡ length zs → q ≡ stored w p (at + a + b + c) us → d ≡ length us
-    → (a + b + c + d ≡ length (xs ++ (ys ++ (zs ++ us)))) × (q ≡ stored w l at (xs ++ (ys ++ (zs ++ us))))
-four w l m o p q at a b c d xs ys zs us is_m is-a is-o is_b is-p is_c is-q is-d =
-    let last = stored_next w o p q (at + a + b) c d zs us is-p is_c is-q is-d in
-    let late = stored_next w m o q (at + a) b (c + d) ys (zs ++ us) is-o is_b last.1 last.0 in
-    let all = stored_next w l m q at a (b + (c + d)) xs (ys ++ (zs ++ us)) is_m is-a late.1 late.0 in
+four : (l m o p q : List ℕ) (at a b c d : ℕ) (xs ys zs us : List ℕ)
+    → m ≡ stored l at xs → a ≡ length xs → o ≡ stored m (at + a) ys → b ≡ length ys
+    → p ≡ stored o (at + a + b) zs → c ≡ length zs → q ≡ stored p (at + a + b + c) us → d ≡ length us
+    → (a + b + c + d ≡ length (xs ++ (ys ++ (zs ++ us)))) × (q ≡ stored l at (xs ++ (ys ++ (zs ++ us))))
+four l m o p q at a b c d xs ys zs us is_m is-a is-o is_b is-p is_c is-q is-d =
+    let last = stored_next o p q (at + a + b) c d zs us is-p is_c is-q is-d in
+    let late = stored_next m o q (at + a) b (c + d) ys (zs ++ us) is-o is_b last.1 last.0 in
+    let all = stored_next l m q at a (b + (c + d)) xs (ys ++ (zs ++ us)) is_m is-a late.1 late.0 in
     (omega (arith, all.0), all.1)
 
-pub row_stored : (w : Bool) (l m o p q : List ℕ) (at a b c d : ℕ) (pool : List ℕ) (it : ItemWords) (s e : Bool)
+pub row_stored : (l m o p q : List ℕ) (at a b c d : ℕ) (pool : List ℕ) (it : ItemWords) (s e : Bool)
     → s ≡ has_start it.code → e ≡ has_end it.code
-    → m ≡ stored w l at (name_of it.code) → a ≡ length (name_of it.code)
-    → o ≡ stored w m (at + a) (comma ∷ key_field s (bytes_of pool it.start)) → b ≡ length (comma ∷ key_field s (bytes_of pool it.start))
-    → p ≡ stored w o (at + a + b) (comma ∷ key_field e (bytes_of pool it.end)) → c ≡ length (comma ∷ key_field e (bytes_of pool it.end))
-    → q ≡ stored w p (at + a + b + c) crlf → d ≡ 2
-    → (a + b + c + d ≡ length (row_text (lane_at pool it))) × (q ≡ stored w l at (row_text (lane_at pool it)))
-row_stored w l m o p q at a b c d pool it s e is-s is-e is_m is-a is-o is_b is-p is_c is-q is-d =
+    → m ≡ stored l at (name_of it.code) → a ≡ length (name_of it.code)
+    → o ≡ stored m (at + a) (comma ∷ key_field s (bytes_of pool it.start)) → b ≡ length (comma ∷ key_field s (bytes_of pool it.start))
+    → p ≡ stored o (at + a + b) (comma ∷ key_field e (bytes_of pool it.end)) → c ≡ length (comma ∷ key_field e (bytes_of pool it.end))
+    → q ≡ stored p (at + a + b + c) crlf → d ≡ 2
+    → (a + b + c + d ≡ length (row_text (lane_at pool it))) × (q ≡ stored l at (row_text (lane_at pool it)))
+row_stored l m o p q at a b c d pool it s e is-s is-e is_m is-a is-o is_b is-p is_c is-q is-d =
     rw (row_parts pool it, ← is-s, ← is-e)
-    (four w l m o p q at a b c d
+    (four l m o p q at a b c d
     (name_of it.code) (comma ∷ key_field s (bytes_of pool it.start)) (comma ∷ key_field e (bytes_of pool it.end)) crlf
     is_m is-a is-o is_b is-p is_c is-q is-d)

@@ -1,11 +1,9 @@
 -- A list of plain items written as a sheet: its text, the refusals, and what is left in the bytes that are lent. Definitions only. Assumes nothing.
-use Rattle.std.specs.Prelude.{ℕ, cond, List, map, length, ltb}
+use Rattle.std.specs.Prelude.{ℕ, cond, List, map, length, ltb, Ok}
 use Rattle.query_item.specs.declared.ItemWords.{ItemWords}
-use Rattle.item_check.specs.Checks.{Answer, answered, refused, Verdict, and_then, words_by, refused_as, wrapped, first_fault, item_fault, pool_verdict, shape_verdict, first_bad, items_of}
+use Rattle.item_check.specs.Checks.{Answer, refused, Verdict, and_then, words_by, wrapped, first_fault, item_fault, pool_verdict, shape_verdict, first_bad, items_of}
 use Rattle.lent_text.specs.Text.{laid}
 use Rattle.sheet_row.specs.Lanes.{lane_at, sheet_text}
-use Rattle.sheet_write.specs.declared.SheetWritten.{SheetWritten}
-use Rattle.sheet_write.specs.declared.SheetWritten.TheVariants as sheet-written
 
 -- 02 §1.1: the text of items is a row for what each of them says
 abbrev pub items_text : List ℕ → List ItemWords → List ℕ
@@ -27,7 +25,7 @@ plain_verdict pool ws = and_then (pool_verdict pool) (listed_verdict pool ws)
 
 -- 02 §1.13: 6 exactly if the text lacks room; else how many bytes it has
 abbrev pub text_room : List ℕ → List ℕ → Answer ℕ
-text_room text out = cond (ltb (length out) (length text)) (refused 6 0 0) (answered (length text))
+text_room text out = cond (ltb (length out) (length text)) (refused 6 0 0) (Ok (length text))
 
 -- ---- the answer, and what is left
 
@@ -44,8 +42,3 @@ write_answer pool ws out = and_then (plain_verdict pool ws) (text_room (list_tex
 -- 01 refusal.5, demand.1: the text over the front of the lent bytes; a refusal leaves them
 abbrev pub write_bytes : List ℕ → List ℕ → List ℕ → List ℕ
 write_bytes pool ws out = words_by (write_answer pool ws out) out (laid out (list_text pool ws))
-
--- 01 form.11: the paper's numbers for each case of the call's answer
-abbrev pub sheet_written_of : SheetWritten → Answer ℕ
-sheet_written_of (sheet-written.Bytes n) = answered n
-sheet_written_of (sheet-written.Refused r) = refused_as r

@@ -1,9 +1,17 @@
 // What is counted, and the lines that tell it.
-use crate::{Met, Tally};
 use std::io;
 
+// How many answers are as recorded, and how many are not; and of the listed differences how many are answered as listed, and how many not.
+#[derive(Clone, Copy)]
+pub(crate) struct Tally {
+    same: u64,
+    other: u64,
+    listed: u64,
+    unlisted: u64,
+}
+
 impl Tally {
-    pub fn new() -> Self {
+    pub(crate) fn new() -> Self {
         Tally {
             same: 0,
             other: 0,
@@ -12,68 +20,28 @@ impl Tally {
         }
     }
 
-    // One case more. A listed difference is answered as listed where the answer is as recorded, and not the original's.
-    pub fn with(self, listed: bool, met: Met) -> Tally {
-        if listed {
-            return self.with_listed(met.recorded & !met.rust);
-        }
-        self.with_same(met.recorded)
-    }
-
-    fn with_listed(self, yes: bool) -> Tally {
-        if yes {
-            return Tally {
-                same: self.same,
-                other: self.other,
-                listed: more(self.listed),
-                unlisted: self.unlisted,
-            };
-        }
-        Tally {
-            same: self.same,
-            other: self.other,
-            listed: self.listed,
-            unlisted: more(self.unlisted),
+    // One case more.
+    pub(crate) fn count(&mut self, is_listed: bool, is_as_recorded: bool) {
+        match (is_listed, is_as_recorded) {
+            (false, true) => self.same = self.same.saturating_add(1),
+            (false, false) => self.other = self.other.saturating_add(1),
+            (true, true) => self.listed = self.listed.saturating_add(1),
+            (true, false) => self.unlisted = self.unlisted.saturating_add(1),
         }
     }
 
-    fn with_same(self, yes: bool) -> Tally {
-        if yes {
-            return Tally {
-                same: more(self.same),
-                other: self.other,
-                listed: self.listed,
-                unlisted: self.unlisted,
-            };
+    // Writes the counts.
+    pub(crate) fn report(self, rt: &impl Print) -> io::Result<()> {
+        println!(rt; "{} calls as recorded, {} not", self.same, self.other)?;
+        if self.unlisted == 0 {
+            return println!(rt;
+                "{} listed differences, each answered as listed",
+                self.listed
+            );
         }
-        Tally {
-            same: self.same,
-            other: more(self.other),
-            listed: self.listed,
-            unlisted: self.unlisted,
-        }
+        println!(rt;
+            "{} listed differences answered as listed, {} not",
+            self.listed, self.unlisted
+        )
     }
-}
-
-fn more(n: u64) -> u64 {
-    if n < 18446744073709551615 {
-        return n + 1;
-    }
-    n
-}
-
-// Writes the counts, or that the sample is cut short or malformed.
-pub fn report(rt: &impl Print, is_whole: bool, t: Tally) -> io::Result<()> {
-    if is_whole {
-        println!(rt; "{} calls as recorded, {} not", t.same, t.other)?;
-        return report_listed(rt, t.listed, t.unlisted);
-    }
-    println!(rt; "the sample is cut short or malformed")
-}
-
-fn report_listed(rt: &impl Print, listed: u64, unlisted: u64) -> io::Result<()> {
-    if unlisted == 0 {
-        return println!(rt; "{listed} listed differences, each answered as listed");
-    }
-    println!(rt; "{listed} listed differences answered as listed, {unlisted} not")
 }

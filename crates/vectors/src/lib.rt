@@ -7,53 +7,27 @@
 // is 1 for a listed difference (docs/DIFFERENCES.md), or else 0, and the last block is then empty. A block is its length in 4 bytes, and its
 // bytes; a key is its length in 2 bytes, and its bytes; an item that is given is its code and wrapper, a byte each, and offset and length of
 // both keys, 2 bytes each.
-//
-// Every reading is total: past the end a byte is 0, and the place after it is the end.
 #![tactic(auto)]
 
-pub mod answers;
 mod counts;
-pub mod inputs;
 pub mod lent;
+mod reader;
+mod recorded;
 
-ghost use Rattle.std.specs.Prelude.{◌<◌, ◌≤◌, ◌≡◌, IfOk, length};
+ghost use Rattle.std.specs.Prelude.{◌≤◌, ◌≡◌, IfOk, length};
 
-pub use counts::report;
-use key_order::{least, wide_u32};
+use counts::Tally;
+pub use reader::Reader;
+pub use recorded::{Held, Recorded};
 use std::io;
 use std::io::Read;
 
-// A place in a slice that goes beside it.
+// A case: the code of its call, the inputs, and the recorded answer.
 #[derive(Clone, Copy)]
-pub struct Cursor {
-    pub at: usize,
-}
-
-// A case: its code, and the places of its blocks and of the next case.
-#[derive(Clone, Copy)]
-pub struct Case {
-    pub code: u8,
-    pub inputs: Cursor,
-    pub recorded: Cursor,
-    pub listed: bool,
-    pub rust: Cursor,
-    pub next: Cursor,
-}
-
-// Whether an answer is as recorded, and whether it is the original's, where that is another.
-#[derive(Clone, Copy)]
-pub struct Met {
-    pub recorded: bool,
-    pub rust: bool,
-}
-
-// How many answers are as recorded, and how many are not; and of the listed differences how many are answered as listed, and how many not.
-#[derive(Clone, Copy)]
-pub struct Tally {
-    pub same: u64,
-    pub other: u64,
-    pub listed: u64,
-    pub unlisted: u64,
+struct Case<'a> {
+    code: u8,
+    inputs: Reader<'a>,
+    recorded: Recorded<'a>,
 }
 
 // FSV1.
@@ -83,97 +57,42 @@ pub fn read_sample(input: &mut impl Read, s: &mut [u8]) -> io::Result<usize>
     Ok(done)
 }
 
-// Whether a sample has its mark and its length.
-pub fn is_sample(s: &[u8]) -> bool {
-    (word(s, Cursor { at: 0 }) == MARK) & (word(s, Cursor { at: 4 }) as usize == s.len())
-}
-
-// How many cases there are, and where the first one is. A case has more than one byte.
-pub fn case_count(s: &[u8]) -> usize {
-    least(word(s, Cursor { at: 8 }) as usize, s.len())
-}
-
-pub fn first_case() -> Cursor {
-    Cursor { at: 12 }
-}
-
-// Whether the end mark, and nothing else, is at a place: no reading has passed the end then.
-pub fn is_end(s: &[u8], c: Cursor) -> bool {
-    let at = c.at;
-    (byte(s, c) == END_MARK) & (on(s, c, 1).at == s.len()) & (at < s.len())
-}
-
-pub fn case_at(s: &[u8], c: Cursor) -> Case {
-    let inputs = on(s, c, 1);
-    let recorded = after_block(s, inputs);
-    let flag = after_block(s, recorded);
-    let rust = on(s, flag, 1);
-    Case {
-        code: byte(s, c),
-        inputs,
-        recorded,
-        listed: byte(s, flag) != 0,
-        rust,
-        next: after_block(s, rust),
-    }
-}
-
-// ---- bytes, numbers and parts
-
-// The place so many bytes on, or the end.
-pub fn on(s: &[u8], c: Cursor, n: usize) -> Cursor {
-    let from = least(c.at, s.len());
-    Cursor {
-        at: from + least(n, s.len() - from),
-    }
-}
-
-pub fn byte(s: &[u8], c: Cursor) -> u8 {
-    let at = c.at;
-    if at < s.len() {
-        return s[at];
-    }
-    0
-}
-
-// The number of 2 bytes.
-pub fn short(s: &[u8], c: Cursor) -> u32
-    ensures { result < 65536 }
+// Makes the call of each case of a sample, which says whether its answer is as recorded, and writes what was counted.
+pub fn replay<F: Fn(u8, Reader<'_>, Recorded<'_>) -> bool>(
+    rt: &impl Print,
+    s: &[u8],
+    call: F,
+) -> io::Result<()>
+    requires { F.IsAlwaysCallable call }
 {
-    256 * wide_u32(byte(s, c)) + wide_u32(byte(s, on(s, c, 1)))
+    let mut r = Reader::new(s);
+    let is_sample = (r.word() == MARK) & (r.word() as usize == s.len());
+    let mut tally = Tally::new();
+    // a case has more than one byte
+    for _ in 0..s.len().min(r.word() as usize) {
+        let case = r.case();
+        tally.count(
+            case.recorded.is_listed(),
+            call(case.code, case.inputs, case.recorded),
+        );
+    }
+    if is_sample & r.is_last(END_MARK) {
+        return tally.report(rt);
+    }
+    println!(rt; "the sample is cut short or malformed")
 }
 
-// The number of 4 bytes.
-pub fn word(s: &[u8], c: Cursor) -> u32
-    ensures { result < 4294967296 }
-{
-    65536 * short(s, c) + short(s, on(s, c, 2))
-}
-
-// The number of 8 bytes.
-pub fn long(s: &[u8], c: Cursor) -> u64 {
-    4294967296 * word(s, c) as u64 + word(s, on(s, c, 4)) as u64
-}
-
-// So many bytes from a place on, or those that there are.
-pub fn part(s: &[u8], c: Cursor, n: usize) -> &[u8] {
-    let from = least(c.at, s.len());
-    let to = from + least(n, s.len() - from);
-    &s[from..to]
-}
-
-pub fn block(s: &[u8], c: Cursor) -> &[u8] {
-    part(s, on(s, c, 4), word(s, c) as usize)
-}
-
-pub fn after_block(s: &[u8], c: Cursor) -> Cursor {
-    on(s, on(s, c, 4), word(s, c) as usize)
-}
-
-pub fn key(s: &[u8], c: Cursor) -> &[u8] {
-    part(s, on(s, c, 2), short(s, c) as usize)
-}
-
-pub fn after_key(s: &[u8], c: Cursor) -> Cursor {
-    on(s, on(s, c, 2), short(s, c) as usize)
+impl<'a> Reader<'a> {
+    fn case(&mut self) -> Case<'a> {
+        let code = self.byte();
+        let inputs = Reader::new(self.block());
+        let ours = self.block();
+        let is_listed = self.flag();
+        let rust = self.block();
+        Case {
+            code,
+            inputs,
+            recorded: Recorded::new(ours, if is_listed { Some(rust) } else { None }),
+        }
+    }
 }

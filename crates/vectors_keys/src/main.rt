@@ -6,49 +6,25 @@ mod items;
 mod keys;
 
 use std::io;
-use vectors::answers::nothing_met;
-use vectors::{Case, Met, Tally, block};
+use vectors::{Reader, Recorded};
 
 fn main(rt: HostRuntime) -> io::Result<()> {
     let mut buffer = vectors::buffer();
     let n = vectors::read_sample(&mut rt.reader(), &mut buffer)?;
-    replay(&rt, &buffer[..n])
+    vectors::replay(&rt, &buffer[..n], call)
 }
 
-fn replay(rt: &impl Print, s: &[u8]) -> io::Result<()> {
-    let mut at = vectors::first_case();
-    let mut tally = Tally::new();
-    for _ in 0..vectors::case_count(s) {
-        let case = vectors::case_at(s, at);
-        tally = tally.with(case.listed, replay_case(s, case));
-        at = case.next;
-    }
-    vectors::report(rt, vectors::is_sample(s) & vectors::is_end(s, at), tally)
-}
-
-fn replay_case(s: &[u8], case: Case) -> Met {
-    let inputs = case.inputs;
-    let recorded = case.recorded;
-    let rust = case.rust;
-    meet(
-        case.code,
-        block(s, inputs),
-        block(s, recorded),
-        block(s, rust),
-    )
-}
-
-// A call on the inputs x, held against the recorded answer a and the original's.
-fn meet<'a>(code: u8, x: &'a [u8], a: &'a [u8], rust: &'a [u8]) -> Met {
+// Whether the answer of a call on the inputs x is as recorded.
+fn call(code: u8, x: Reader<'_>, recorded: Recorded<'_>) -> bool {
     match code {
-        1 => keys::compare_met(x, a, rust),
-        2 => keys::order_items_met(x, a, rust),
-        3 => keys::compare_boundaries_met(x, a, rust),
-        4 => keys::invert_met(x, a, rust),
-        5 => items::to_range_set_met(x, a, rust),
-        6 => items::to_query_item_met(x, a, rust),
-        7 => items::could_contain_key_met(x, a, rust),
-        8 => items::could_have_items_met(x, a, rust),
-        _ => nothing_met(),
+        1 => keys::compare(x, recorded),
+        2 => keys::order_items(x, recorded),
+        3 => keys::compare_boundaries(x, recorded),
+        4 => keys::invert(x, recorded),
+        5 => items::to_range_set(x, recorded),
+        6 => items::to_query_item(x, recorded),
+        7 => items::could_contain_key(x, recorded),
+        8 => items::could_have_items(x, recorded),
+        _ => false,
     }
 }

@@ -1,154 +1,90 @@
 // The call on two lists. Inputs: a pool, the words lent for each of the three lists (2 bytes each), and our list and theirs, each after the
 // number of its items (2 bytes).
-use intersect_many::{ManyAnswer, ManyCounts, intersect_many_ordered};
+use intersect_many::intersect_many_ordered;
 use item_words::ITEM_SIZE;
-use key_order::least;
-use vectors::answers::{answered, holds_items, is_all, refusal_met};
-use vectors::inputs::{ITEM_BYTES, fill};
 use vectors::lent::{front, is_kept, room};
-use vectors::{Cursor, Met, after_block, block, on, short};
+use vectors::{Reader, Recorded};
 
 // The answer is the three lists, each after its number of items. Words past their items are kept.
-pub(crate) fn intersect_many_met<'a>(x: &'a [u8], a: &'a [u8], rust: &'a [u8]) -> Met {
+pub(crate) fn intersect_many(mut x: Reader<'_>, recorded: Recorded<'_>) -> bool {
     let mut ours = room();
-    let given = fill_ours(x, &mut ours);
-    with_ours(x, a, rust, front(&ours, given))
+    let pool = x.block();
+    let lent = Lent::read(&mut x);
+    let count = x.items(&mut ours);
+    with_ours(pool, lent, front(&ours, count * ITEM_SIZE), x, recorded)
 }
 
 // The answer is our list as it is after the call.
-pub(crate) fn ours_met<'a>(x: &'a [u8], a: &'a [u8], rust: &'a [u8]) -> Met {
+pub(crate) fn ours_after(mut x: Reader<'_>, recorded: Recorded<'_>) -> bool {
     let mut ours = room();
-    let given = fill_ours(x, &mut ours);
-    with_ours(x, a, rust, front(&ours, given));
-    let pool = block(x, FRONT);
-    Met {
-        recorded: is_list(a, pool, &ours, given / ITEM_SIZE),
-        rust: is_list(rust, pool, &ours, given / ITEM_SIZE),
-    }
+    let pool = x.block();
+    let lent = Lent::read(&mut x);
+    let count = x.items(&mut ours);
+    with_ours(pool, lent, front(&ours, count * ITEM_SIZE), x, recorded);
+    recorded.answers(|held| held.items(pool, &ours, count))
 }
 
-const FRONT: Cursor = Cursor { at: 0 };
-
-// Our list, and how many words it has.
-fn fill_ours(x: &[u8], words: &mut [u32]) -> usize {
-    let at = on(x, after_block(x, FRONT), 6);
-    let count = short(x, at) as usize;
-    fill(x, on(x, at, 2), count, words);
-    count * ITEM_SIZE
+// How many words are lent for each list.
+#[derive(Clone, Copy)]
+struct Lent {
+    shared: usize,
+    ours: usize,
+    theirs: usize,
 }
 
-fn fill_theirs(x: &[u8], words: &mut [u32]) -> usize {
-    let ours = on(x, after_block(x, FRONT), 6);
-    let at = on(x, on(x, ours, 2), short(x, ours) as usize * ITEM_BYTES);
-    let count = short(x, at) as usize;
-    fill(x, on(x, at, 2), count, words);
-    count * ITEM_SIZE
-}
-
-fn with_ours<'a>(x: &'a [u8], a: &'a [u8], rust: &'a [u8], ours: &'a [u32]) -> Met {
-    let mut shared_out = room();
-    let mut ours_out = room();
-    let mut theirs_out = room();
-    let answer = with_theirs(x, ours, &mut shared_out, &mut ours_out, &mut theirs_out);
-    lists_met(
-        block(x, FRONT),
-        a,
-        rust,
-        &shared_out,
-        &ours_out,
-        &theirs_out,
-        answer,
-    )
-}
-
-fn with_theirs(
-    x: &[u8],
-    ours: &[u32],
-    shared_out: &mut [u32],
-    ours_out: &mut [u32],
-    theirs_out: &mut [u32],
-) -> ManyAnswer {
-    let mut theirs = room();
-    let given = fill_theirs(x, &mut theirs);
-    call(
-        x,
-        ours,
-        front(&theirs, given),
-        shared_out,
-        ours_out,
-        theirs_out,
-    )
-}
-
-fn call(
-    x: &[u8],
-    ours: &[u32],
-    theirs: &[u32],
-    shared_out: &mut [u32],
-    ours_out: &mut [u32],
-    theirs_out: &mut [u32],
-) -> ManyAnswer {
-    let at = after_block(x, FRONT);
-    let p = least(short(x, at) as usize, shared_out.len());
-    let q = least(short(x, on(x, at, 2)) as usize, ours_out.len());
-    let r = least(short(x, on(x, at, 4)) as usize, theirs_out.len());
-    intersect_many_ordered(
-        block(x, FRONT),
-        ours,
-        theirs,
-        &mut shared_out[0..p],
-        &mut ours_out[0..q],
-        &mut theirs_out[0..r],
-    )
-}
-
-fn lists_met<'a>(
-    pool: &'a [u8],
-    a: &'a [u8],
-    rust: &'a [u8],
-    shared_out: &'a [u32],
-    ours_out: &'a [u32],
-    theirs_out: &'a [u32],
-    answer: ManyAnswer,
-) -> Met {
-    match answer {
-        ManyAnswer::Counts(n) => Met {
-            recorded: are_lists(pool, a, shared_out, ours_out, theirs_out, n)
-                & are_kept(shared_out, ours_out, theirs_out, n),
-            rust: are_lists(pool, rust, shared_out, ours_out, theirs_out, n),
-        },
-        ManyAnswer::Refused(refusal) => {
-            let met = refusal_met(a, rust, refusal);
-            let none = ManyCounts {
-                shared: 0,
-                ours: 0,
-                theirs: 0,
-            };
-            Met {
-                recorded: met.recorded & are_kept(shared_out, ours_out, theirs_out, none),
-                rust: met.rust,
-            }
+impl Lent {
+    fn read(x: &mut Reader<'_>) -> Lent {
+        let shared = x.short() as usize;
+        let ours = x.short() as usize;
+        let theirs = x.short() as usize;
+        Lent {
+            shared,
+            ours,
+            theirs,
         }
     }
 }
 
-fn are_lists<'a>(
+fn with_ours<'a>(
     pool: &'a [u8],
-    a: &'a [u8],
-    shared_out: &'a [u32],
-    ours_out: &'a [u32],
-    theirs_out: &'a [u32],
-    n: ManyCounts,
+    lent: Lent,
+    ours: &[u32],
+    mut x: Reader<'_>,
+    recorded: Recorded<'a>,
 ) -> bool {
-    let shared = holds_items(a, answered(a), pool, shared_out, n.shared);
-    let ours = holds_items(a, shared, pool, ours_out, n.ours);
-    is_all(a, holds_items(a, ours, pool, theirs_out, n.theirs))
-}
-
-fn are_kept(shared_out: &[u32], ours_out: &[u32], theirs_out: &[u32], n: ManyCounts) -> bool {
-    is_kept(shared_out, n.shared) & is_kept(ours_out, n.ours) & is_kept(theirs_out, n.theirs)
-}
-
-fn is_list<'a>(a: &'a [u8], pool: &'a [u8], words: &'a [u32], count: usize) -> bool {
-    is_all(a, holds_items(a, answered(a), pool, words, count))
+    let mut shared_out = room();
+    let mut ours_out = room();
+    let mut theirs_out = room();
+    let mut theirs = room();
+    let count = x.items(&mut theirs);
+    let p = lent.shared.min(shared_out.len());
+    let q = lent.ours.min(ours_out.len());
+    let r = lent.theirs.min(theirs_out.len());
+    let answer = intersect_many_ordered(
+        pool,
+        ours,
+        front(&theirs, count * ITEM_SIZE),
+        &mut shared_out[..p],
+        &mut ours_out[..q],
+        &mut theirs_out[..r],
+    );
+    match answer {
+        Ok(n) => {
+            let is_answer = recorded.answers(|held| {
+                held.items(pool, &shared_out, n.shared)
+                    .items(pool, &ours_out, n.ours)
+                    .items(pool, &theirs_out, n.theirs)
+            });
+            is_answer
+                & is_kept(&shared_out, n.shared)
+                & is_kept(&ours_out, n.ours)
+                & is_kept(&theirs_out, n.theirs)
+        }
+        Err(refusal) => {
+            recorded.refuses(refusal)
+                & is_kept(&shared_out, 0)
+                & is_kept(&ours_out, 0)
+                & is_kept(&theirs_out, 0)
+        }
+    }
 }

@@ -7,78 +7,29 @@ mod query;
 mod reports;
 mod words;
 
-use crate::reports::Asked;
+use position_mismatch::compare::{extra_in, missing_from};
+use position_mismatch::spans::missing_from_span_words;
 use std::io;
-use vectors::answers::nothing_met;
-use vectors::{Case, Cursor, Met, Tally, block, short};
+use vectors::{Reader, Recorded};
 
 fn main(rt: HostRuntime) -> io::Result<()> {
     let mut buffer = vectors::buffer();
     let n = vectors::read_sample(&mut rt.reader(), &mut buffer)?;
-    replay(&rt, &buffer[..n])
+    vectors::replay(&rt, &buffer[..n], call)
 }
 
-fn replay(rt: &impl Print, s: &[u8]) -> io::Result<()> {
-    let mut at = vectors::first_case();
-    let mut tally = Tally::new();
-    for _ in 0..vectors::case_count(s) {
-        let case = vectors::case_at(s, at);
-        tally = tally.with(case.listed, replay_case(s, case));
-        at = case.next;
-    }
-    vectors::report(rt, vectors::is_sample(s) & vectors::is_end(s, at), tally)
-}
-
-fn replay_case(s: &[u8], case: Case) -> Met {
-    let inputs = case.inputs;
-    let recorded = case.recorded;
-    let rust = case.rust;
-    meet(
-        case.code,
-        block(s, inputs),
-        block(s, recorded),
-        block(s, rust),
-    )
-}
-
-// A call on the inputs x, held against the recorded answer a and the original's.
-fn meet<'a>(code: u8, x: &'a [u8], a: &'a [u8], rust: &'a [u8]) -> Met {
+// Whether the answer of a call on the inputs x is as recorded.
+fn call(code: u8, x: Reader<'_>, recorded: Recorded<'_>) -> bool {
     match code {
-        1 => query::be_u64_met(x, a, rust),
-        2 => query::from_query_items_met(x, a, rust),
-        9 => reports::describe_met(x, a, rust),
-        _ => with_intervals(code, x, a, rust),
-    }
-}
-
-// The same of a call on intervals, with which the inputs begin: numbers after their number (2 bytes).
-fn with_intervals<'a>(code: u8, x: &'a [u8], a: &'a [u8], rust: &'a [u8]) -> Met {
-    let front = Cursor { at: 0 };
-    let mut words = words::room();
-    words::fill(x, front, &mut words);
-    meet_intervals(
-        code,
-        words::front(&words, short(x, front) as usize),
-        x,
-        a,
-        rust,
-    )
-}
-
-fn meet_intervals<'a>(
-    code: u8,
-    intervals: &'a [u64],
-    x: &'a [u8],
-    a: &'a [u8],
-    rust: &'a [u8],
-) -> Met {
-    match code {
-        3 => asked::contains_met(intervals, x, a, rust),
-        4 => asked::len_met(intervals, a, rust),
-        5 => asked::is_empty_met(intervals, a, rust),
-        6 => reports::compared_met(Asked::Missing, intervals, x, a, rust),
-        7 => reports::compared_met(Asked::Extra, intervals, x, a, rust),
-        8 => reports::compared_met(Asked::MissingFromSpans, intervals, x, a, rust),
-        _ => nothing_met(),
+        1 => query::be_u64(x, recorded),
+        2 => query::from_query_items(x, recorded),
+        3 => asked::contains(x, recorded),
+        4 => asked::len(x, recorded),
+        5 => asked::is_empty(x, recorded),
+        6 => reports::compared(missing_from, x, recorded),
+        7 => reports::compared(extra_in, x, recorded),
+        8 => reports::compared(missing_from_span_words, x, recorded),
+        9 => reports::describe(x, recorded),
+        _ => false,
     }
 }

@@ -8,23 +8,23 @@ use Rattle.insert.proofs.Windows.{asked_merged, asked_stay}
 use Rattle.insert.proofs.find_result.Goals as goal
 
 pub overflow_add-result : goal.overflow_add-result
-overflow_add-result c = let mid = items_from c.args.words.now c.args.from (c.args.to - c.args.from) in
+overflow_add-result c = let mid = items_from c.args.words.now c.args.window.now.start (c.args.window.now.end - c.args.window.now.start) in
     omega (
       arith,
       c.find_merged-found.ensures.stay,
       length_staying c.args.pool.now c.args.item mid,
-      length_items c.args.words.now c.args.from (c.args.to - c.args.from),
+      length_items c.args.words.now c.args.window.now.start (c.args.window.now.end - c.args.window.now.start),
       c.requires.ascends,
       c.requires.within,
     )
 
 pub overflow_add-result-2 : goal.overflow_add-result-2
-overflow_add-result-2 c = let mid = items_from c.args.words.now c.args.from (c.args.to - c.args.from) in
+overflow_add-result-2 c = let mid = items_from c.args.words.now c.args.window.now.start (c.args.window.now.end - c.args.window.now.start) in
     omega (
       arith,
       c.find_merged-found.ensures.stay,
       length_staying c.args.pool.now c.args.item mid,
-      length_items c.args.words.now c.args.from (c.args.to - c.args.from),
+      length_items c.args.words.now c.args.window.now.start (c.args.window.now.end - c.args.window.now.start),
       c.requires.ascends,
       c.requires.within,
     )

@@ -1,7 +1,7 @@
 -- `insert::insert_checked` meets its contract: there is no room and nothing is written, or the tail from the first change on is lent on and
 -- comes back rewritten. The test of the room is stated before the answer is rewritten by it. Assumes nothing.
 use Prim.Native.Nat.{◌+◌, ◌/◌}
-use mathlib.Core.Path.{◌≡◌}
+use mathlib.Core.Path.{◌≡◌, ◌∙◌}
 use mathlib.Core.Bool.{true, ◌||◌}
 use native.Mathlib.Omega.{arith}
 use lib.ListN.{length}
@@ -29,7 +29,7 @@ pub returns-then-words-after : goal.returns-then-words-after
 returns-then-words-after c = let count = c.find_result-found.result.stay + 1 in
     let no_room : ltb (length c.args.words.now / item_size) count || ltb most_items count ≡ true = c.if-words-after.true in
     let after = after_is _ _ _ c.find_result-found.ensures.stay in
-    record { result_value = rw (c.refusal_of.ensures, ← after, no_room); words_after = rw (← after, no_room) }
+    record { result_value = c.refuse.ensures ∙ rw (← after, no_room); words_after = rw (← after, no_room) }
 
 pub first_changed-first-requires : goal.first_changed-first-requires
 first_changed-first-requires c = (omega (arith, c.find_window-window.ensures.ascends, c.find_window-window.ensures.within), ascending c.args.pool.now c.args.words.now c.args.count c.args.item c.requires.1, c.find_window-window.ensures.front)
@@ -53,7 +53,7 @@ pub rewrite-requires : goal.rewrite-requires
 rewrite-requires c = let fits =
     tail_room _ _ _ _ _ c.first_changed-first.ensures c.requires.0
     (rw (← after_placed _ _ _ _ c.find_result-found.ensures.stay) (room_is _ _ _ c.if-words-after.false)) in
-    (fits.0, fits.1, tail_stay _ _ _ _ _ c.first_changed-first.ensures _ c.less.ensures c.find_window-window.ensures.back)
+    (fits.0, fits.1, tail_stay _ _ _ _ _ c.first_changed-first.ensures _ c.saturating_sub.ensures c.find_window-window.ensures.back)
 
 pub returns : goal.returns
 returns c = let after = after_is _ _ _ c.find_result-found.ensures.stay in record {

@@ -1,6 +1,6 @@
 -- `insert_order::check_order` meets its contract: the first item that breaks the order. The invariant: the verdict on the list is that on
--- what is left at i, and the first i items are in order, the last of them, its run and the last plain one known (`Seen`). The measure is
--- what is left of the list. Assumes nothing.
+-- what is left at i, and the first i items are in order, the last of them, its run and the last plain one known (`Seen`).
+-- Assumes nothing.
 use Prim.Native.Nat.{◌-◌}
 use mathlib.Core.Path.{◌≡◌}
 use Rattle.query_item.specs.Items.{items_from}
@@ -11,6 +11,3 @@ use Rattle.insert_order.proofs.check_order.Given as goal
 abbrev pub invariant-loop-i : goal.invariant-loop-i
 invariant-loop-i l = (order_verdict l.pool (items_from l.words 0 l.count) ≡ first_clash l.pool l.i (earlier l.pool l.words l.i) (items_from l.words l.i (l.count - l.i)))
     × Seen l.pool l.words l.i l.run l.plain_end
-
-abbrev pub decreases-loop-i : goal.decreases-loop-i
-decreases-loop-i l = l.count - l.i

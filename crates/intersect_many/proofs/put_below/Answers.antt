@@ -2,4 +2,4 @@
 use Rattle.intersect_many.proofs.put_below.Goals as goal
 
 pub returns : goal.returns
-returns c = rw (← c.invert_in-end.ensures) c.put_set.ensures
+returns c = rw (← c.invert.ensures) c.put_set.ensures

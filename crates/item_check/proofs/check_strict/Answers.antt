@@ -1,4 +1,4 @@
-use mathlib.Core.Path.{sym, ◌∙◌}
+use Rattle.std.proofs.Common.{sym, ◌∙◌}
 use Rattle.item_check.proofs.Scans.{break_end, break_here, break_next, strict_start}
 use Rattle.item_check.proofs.check_strict.Goals as goal
 

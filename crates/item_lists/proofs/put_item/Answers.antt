@@ -4,10 +4,10 @@ use Rattle.item_lists.specs.Written.{put_all}
 use mathlib.Core.Path.{refl, ap, ◌∙◌}
 use Rattle.item_lists.proofs.put_item.Goals as goal
 
-pub returns-in-NoItem : goal.returns-in-NoItem
+pub returns-in-None : goal.returns-in-None
 unfolding put_all
-returns-in-NoItem c = rw c.in-NoItem.is (refl, refl)
+returns-in-None c = rw c.in-None.is (refl, refl)
 
-pub returns-in-Item : goal.returns-in-Item
+pub returns-in-Some : goal.returns-in-Some
 unfolding put_all
-returns-in-Item c = rw c.in-Item.is (refl, c.write_item.ensures ∙ ap (with_item c.args.out.now c.args.i) c.words_of.ensures)
+returns-in-Some c = rw c.in-Some.is (refl, c.write_item.ensures ∙ ap (with_item c.args.out.now c.args.i) c.words_of.ensures)

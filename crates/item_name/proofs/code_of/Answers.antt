@@ -1,5 +1,6 @@
 -- `item_name::code_of` meets its contract: names of another length are others. Assumes nothing.
 use mathlib.Core.Path.{sym, ◌∙◌}
+use native.Mathlib.Omega.{arith}
 use Rattle.item_name.proofs.Laws.{code_by_length, code_of_none}
 use Rattle.item_name.proofs.code_of.Goals as goal
 
@@ -28,5 +29,5 @@ pub returns-in-21 : goal.returns-in-21
 returns-in-21 c = c.code_if-in-21.ensures ∙ sym (code_by_length _ 21 c.in-21.is)
 
 pub returns-in_default : goal.returns-in_default
-returns-in_default c = sym (code_of_none _ c.in_default.in_default-own.rest.0.0.0.0.0.0.0.0.1 c.in_default.in_default-own.rest.0.0.0.0.0.0.0.1 c.in_default.in_default-own.rest.0.0.0.0.0.0.1
-    c.in_default.in_default-own.rest.0.0.0.0.0.1 c.in_default.in_default-own.rest.0.0.0.0.1 c.in_default.in_default-own.rest.0.0.0.1 c.in_default.in_default-own.rest.0.0.1 c.in_default.in_default-own.rest.0.1 c.in_default.in_default-own.rest.1)
+returns-in_default c =
+    sym (code_of_none _ (omega arith) (omega arith) (omega arith) (omega arith) (omega arith) (omega arith) (omega arith) (omega arith) (omega arith))

@@ -11,4 +11,4 @@ returns c = rw (
   c.word_or_zero-4.ensures,
   c.word_or_zero-5.ensures,
   c.word_or_zero-6.ensures,
-) (item_clipped c.args.words.now c.args.i c.least-at.result c.least-at.ensures)
+) (item_clipped c.args.words.now c.args.i c.min-at.result c.min-at.ensures)

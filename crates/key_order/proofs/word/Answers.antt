@@ -1,16 +1,7 @@
--- `key_order::word` meets its contract: the sum of the eight products is the number. Assumes nothing.
+-- `key_order::word` meets its contract: std's sum of the eight products is the number. Assumes nothing.
+use Rattle.std.proofs.Common.{arith}
 use Rattle.key_order.proofs.Words.{be_eight}
 use Rattle.key_order.proofs.word.Goals as goal
 
 pub returns : goal.returns
-returns c = rw (
-  ← be_eight c.args.bytes.now c.requires,
-  c.wide-8.ensures.0,
-  c.wide-7.ensures.0,
-  c.wide-6.ensures.0,
-  c.wide-5.ensures.0,
-  c.wide-4.ensures.0,
-  c.wide-3.ensures.0,
-  c.wide-2.ensures.0,
-  c.wide.ensures.0,
-)
+returns c = omega (arith, c.from_be_bytes.ensures, be_eight c.args.bytes.now c.requires)

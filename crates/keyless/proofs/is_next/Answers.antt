@@ -1,7 +1,7 @@
 -- `keyless::is_next` meets its contract: another length or last byte is no next key; of those, the bytes before the last decide. Assumes nothing.
+use Rattle.std.specs.Ordering.{is_eq}
 use mathlib.Core.Path.{sym, ap, ◌∙◌}
 use native.Mathlib.Omega.{arith}
-use Rattle.key_order.specs.Order.{is_equal}
 use Rattle.keyless.proofs.Next.{next_length, next_last, next_part}
 use Rattle.keyless.proofs.is_next.Goals as goal
 
@@ -15,5 +15,5 @@ pub returns-then-b-n-ne0 : goal.returns-then-b-n-ne0
 returns-then-b-n-ne0 c = sym (next_last c.args.a.now c.args.b.now c.if-b-n-ne0.true)
 
 pub returns : goal.returns
-returns c = c.is_equal.ensures
-    ∙ ap is_equal (c.compare.ensures ∙ next_part c.args.a.now c.args.b.now (omega arith) (omega arith))
+returns c = c.is_eq.ensures
+    ∙ ap is_eq (c.compare.ensures ∙ next_part c.args.a.now c.args.b.now (omega arith) (omega arith))

@@ -1,6 +1,5 @@
 -- `listing_line` meets its contract: the list that has the line, or none. Assumes nothing.
 use mathlib.Core.Path.{refl, sym}
-use mathlib.Core.Bool.{true}
 use Rattle.lent_text.proofs.Laws.{stored_none}
 use Rattle.krl_listing.proofs.Lines.{line_shared, line_ours, line_theirs, line_none}
 use Rattle.krl_listing.proofs.listing_line.Goals as goal
@@ -18,4 +17,4 @@ returns-then-last-theirs c = rw (line_theirs c.args.pool.now c.args.shared_out.n
 
 pub returns : goal.returns
 returns c = rw (line_none c.args.pool.now c.args.shared_out.now c.args.ours_out.now c.args.theirs_out.now c.args.counts c.args.i c.if-i-shared.false c.if-later-ours.false c.if-last-theirs.false)
-    (refl, sym (stored_none true c.args.out.now 0))
+    (refl, sym (stored_none c.args.out.now 0))

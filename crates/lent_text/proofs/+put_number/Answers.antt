@@ -22,6 +22,6 @@ returns t c =
       decimal_few c.args.n,
     ) in
     let two =
-    stored_next c.args.write c.args.out.now c.put_number-k.new.out c.put_past.new.out c.args.at c.put_number-k.result 1 (decimal (c.args.n / 10))
+    stored_next c.args.out.now c.put_number-k.new.out c.put_past.new.out c.args.at c.put_number-k.result 1 (decimal (c.args.n / 10))
     (c.digit-2.result ∷ []) c.put_number-k.ensures.1 c.put_number-k.ensures.0 c.put_past.ensures refl in
     rw (more, ← c.digit-2.ensures) (two.0, two.1, few)

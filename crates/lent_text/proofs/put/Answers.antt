@@ -1,11 +1,12 @@
--- `lent_text::put` meets its contract: no byte past the place is the place. Assumes nothing.
-use Prim.Native.Nat.{ℕ, ◌+◌}
-use mathlib.Core.Path.{◌≡◌, subst}
-use mathlib.Core.List.{◌∷◌, []}
-use native.Mathlib.Omega.{arith}
+-- `lent_text::put` meets its contract: past the end nothing is stored. Assumes nothing.
+use mathlib.Core.Path.{refl, sym}
 use Rattle.lent_text.specs.Text.{stored}
+use Rattle.lent_text.proofs.Laws.{stored_past}
 use Rattle.lent_text.proofs.put.Goals as goal
 
-pub returns : goal.returns
-returns c = let z : c.args.at + 0 ≡ c.args.at = omega arith in
-    subst (λ (j : ℕ). c.put_past.new.out ≡ stored c.args.write c.args.out.now j (c.args.byte ∷ [])) z c.put_past.ensures
+pub returns-then-at-out : goal.returns-then-at-out
+unfolding stored
+returns-then-at-out c = refl
+
+pub returns-else-at-out : goal.returns-else-at-out
+returns-else-at-out c = sym (stored_past _ _ _ c.if-at-out.false)

@@ -5,10 +5,10 @@ use Rattle.range_borrowed.proofs.contains.Goals as goal
 
 pub returns : goal.returns
 returns c = rw (
-  c.is_equal-2.ensures,
-  c.is_equal.ensures,
-  c.is_less-2.ensures,
-  c.is_less.ensures,
+  c.is_eq-2.ensures,
+  c.is_eq.ensures,
+  c.is_lt-2.ensures,
+  c.is_lt.ensures,
   c.compare_boundaries-to.ensures,
   c.kind_numbered-2.ensures,
   c.compare_boundaries-from.ensures,

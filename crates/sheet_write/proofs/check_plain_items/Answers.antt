@@ -1,24 +1,19 @@
 use mathlib.Core.Path.{sym, ◌∙◌}
-use native.Mathlib.Nat.{sub-zero}
-use borrow.Author.Rules.{rules}
-use Rattle.item_check.proofs.Laws.{bad_end, bad_here, bad_next}
+use Rattle.std.proofs.lemmas.Result.{err_from_is_err_and}
+use Rattle.item_check.proofs.Laws.{bad_end}
+use Rattle.sheet_write.proofs.Plain.{plain_step}
 use Rattle.sheet_write.proofs.check_plain_items.Goals as goal
 
-pub loop-i-init : goal.loop-i-init
-loop-i-init c = (search rules, search rules, rw sub-zero)
-
-pub returns-then-fault-ne0 : goal.returns-then-fault-ne0
-returns-then-fault-ne0 c = c.refuse.ensures
-    ∙ sym (c.loop-i.invariant.2
-    ∙ bad_here _ _ _ _ _ c.loop-i-test.true (c.plain_fault-fault.ensures ∙ rw c.item_at.ensures) c.if-fault-ne0.true)
+pub returns-in_err-check_plain : goal.returns-in_err-check_plain
+returns-in_err-check_plain c =
+    let p = err_from_is_err_and c.from_residual.result c.from_residual.ensures.1 in
+    let this = sym c.in_err-check_plain.was ∙ c.check_plain.ensures in
+    rw (p.1, p.2) (sym (c.loop-i.invariant ∙ plain_step _ _ _ _ c.loop-i-test.true c.item_at.ensures (sym this)))
 
 pub loop-i-preserved : goal.loop-i-preserved
-loop-i-preserved c = (
-  search rules,
-  search rules,
-  c.loop-i.invariant.2
-      ∙ bad_next _ _ _ _ _ c.loop-i-test.true (c.plain_fault-fault.ensures ∙ rw c.item_at.ensures) c.if-fault-ne0.false,
-)
+loop-i-preserved c =
+    let this = sym c.in_ok-check_plain.was ∙ c.check_plain.ensures in
+    c.loop-i.invariant ∙ plain_step _ _ _ _ c.loop-i-test.true c.item_at.ensures (sym this)
 
 pub returns : goal.returns
-returns c = sym (c.loop-i.invariant.2 ∙ bad_end _ _ _ _ _ c.loop-i-test.false)
+returns c = sym (c.loop-i.invariant ∙ bad_end _ _ _ _ _ c.loop-i-test.false)

@@ -6,9 +6,9 @@ pub returns : goal.returns
 unfolding set_words
 returns c = rw (
   c.kind_number-2.ensures,
-  c.kind_of-2.ensures,
+  c.kind-2.ensures,
   c.kind_number.ensures,
-  c.kind_of.ensures,
-  c.key_of-end.ensures,
-  c.key_of-start.ensures,
+  c.kind.ensures,
+  c.key-end.ensures,
+  c.key-start.ensures,
 )

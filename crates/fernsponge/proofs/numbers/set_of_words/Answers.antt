@@ -4,4 +4,4 @@ use Rattle.fernsponge.proofs.numbers.set_of_words.Goals as goal
 
 pub returns : goal.returns
 unfolding set_of_words
-returns c = rw (c.with_key-end.ensures, c.kind_numbered-2.ensures, c.with_key-start.ensures, c.kind_numbered.ensures)
+returns c = rw (c.with_key-2.ensures, c.kind_numbered-2.ensures, c.with_key.ensures, c.kind_numbered.ensures)

@@ -15,8 +15,8 @@ pub returns : goal.returns
 unfolding meet_sets
 returns c = rw (
   c.overlap_by.ensures,
-  c.compare_in-2.ensures,
-  c.compare_in.ensures,
+  c.compare_in-ends.ensures,
+  c.compare_in-starts.ensures,
   ← c.is_before.ensures,
   ← c.is_before-2.ensures,
   c.if-is_before.false,

@@ -8,4 +8,4 @@ pub bounds-places-at-2 : goal.bounds-places-at-2
 bounds-places-at-2 c = simp length-set (omega (arith, c.requires.0.notes, c.requires.0.places_long))
 
 pub returns : goal.returns
-returns c = gathers_item _ _ _ _ _ _ _ _ c.gather_key-first.ensures c.gather_key-second.ensures
+returns c = gathers_item _ _ _ _ _ _ _ _ c.gather_key.ensures c.gather_key-2.ensures

@@ -1,19 +1,19 @@
-use Rattle.pool_collect.proofs.Packs.{packing_start, packing_room, packing_more, packing_end}
-use borrow.Author.Rules.{rules}
+use mathlib.Core.Path.{refl}
+use native.Mathlib.Omega.{arith}
+use Rattle.pool_collect.specs.Table.{entry_key}
+use Rattle.pool_collect.proofs.Packs.{packing_start, packing_room, packing_more}
 use Rattle.pool_collect.proofs.pack.pack.Goals as goal
 
-pub loop-j-init : goal.loop-j-init
-loop-j-init c = (c.requires.0, packing_start _ _ _ c.requires.0 _ c.requires.1)
+pub loop-entry-init : goal.loop-entry-init
+loop-entry-init c = packing_start _ _ _
 
-pub copy_key-at-requires : goal.copy_key-at-requires
-copy_key-at-requires c = packing_room _ _ _ c.loop-j.invariant.0 _ _ _ _ c.loop-j.invariant.1 c.loop-j-test.true
+pub slice_bounds-copy_from_slice-end : goal.slice_bounds-copy_from_slice-end
+unfolding entry_key
+slice_bounds-copy_from_slice-end c =
+    omega (arith, packing_room _ _ _ c.requires _ _ _ c.loop-entry.invariant c.loop-entry-test.true (rw c.old_key.ensures at c.key_bytes-key.ensures))
 
-pub overflow_add-at : goal.overflow_add-at
-overflow_add-at c = let room = packing_room _ _ _ c.loop-j.invariant.0 _ _ _ _ c.loop-j.invariant.1 c.loop-j-test.true in
-    search rules
-
-pub loop-j-preserved : goal.loop-j-preserved
-loop-j-preserved c = (c.loop-j.invariant.0, packing_more _ _ _ c.loop-j.invariant.0 _ _ _ _ c.loop-j.invariant.1 c.loop-j-test.true c.copy_key-at.ensures.0 c.copy_key-at.ensures.1)
-
-pub returns : goal.returns
-returns c = packing_end _ _ _ c.loop-j.invariant.0 _ _ _ _ c.loop-j.invariant.1 c.loop-j-test.false c.requires.1
+pub loop-entry-preserved : goal.loop-entry-preserved
+unfolding entry_key
+loop-entry-preserved c =
+    rw c.copy_from_slice.ensures.after
+    (packing_more _ _ _ c.requires _ _ _ c.loop-entry.invariant c.loop-entry-test.true (rw c.old_key.ensures at c.key_bytes-key.ensures) refl)

@@ -1,18 +1,15 @@
-use Prim.Native.Nat.{◌<◌}
-use native.Mathlib.Omega.{arith}
+-- `first_from` meets its contract: what `find` gives, or the end. Assumes nothing.
+use Prim.Native.Nat.{◌≤◌, ◌<◌}
 use lib.ListN.{get_or}
-use Rattle.position_given.proofs.Indexes.{index_after}
 use borrow.Author.Rules.{rules}
+use borrow.Author.Tests.{tests}
+use Rattle.std.proofs.lemmas.Iterator.{first_from_Range}
+use Rattle.position_plan.proofs.Search.{first_found}
 use Rattle.position_plan.proofs.runs.first_from.Goals as goal
 
-pub loop-i-init : goal.loop-i-init
-loop-i-init c = (search rules, λ k h l. absurd (omega arith))
-
-pub returns-then-x-proved : goal.returns-then-x-proved
-returns-then-x-proved c = record { after = c.loop-i.invariant.0; passed = c.loop-i.invariant.1; found = λ h. c.if-x-proved.true }
-
-pub loop-i-preserved : goal.loop-i-preserved
-loop-i-preserved c = (search rules, index_after (λ k. get_or c.args.proved.now k 0 < c.args.x) _ c.loop-i.i c.loop-i.invariant.1 c.if-x-proved.false)
-
 pub returns : goal.returns
-returns c = record { after = c.loop-i.invariant.0; passed = c.loop-i.invariant.1; found = λ h. absurd (omega arith) }
+returns c =
+    rw c.unwrap_or.ensures
+    (first_found c.args.proved.now c.args.from c.args.x c.find.result c.max.result
+    (first_from_Range _ _ _ _ (λ i. c.args.x ≤ get_or c.args.proved.now i 0) (λ i. get_or c.args.proved.now i 0 < c.args.x) c.find.ensures.ran (λ x q k. search (rules, tests)) (λ x q k. search (rules, tests)))
+    c.max.ensures)

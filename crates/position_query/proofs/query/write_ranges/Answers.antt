@@ -1,25 +1,18 @@
+use mathlib.Core.Path.{◌∙◌}
 use Rattle.position_query.proofs.Builds.{counted_start, counted_some, counted_none, counted_all, counted_written}
-use borrow.Author.Rules.{rules}
 use Rattle.position_query.proofs.query.write_ranges.Goals as goal
+use Rattle.position_query.proofs.query.write_ranges.Goals.{then-range, else-range}
 
 pub loop-i-init : goal.loop-i-init
-loop-i-init c = (search rules, counted_start _ _ _ _ _)
-
-pub loop-i-preserved-then-range : goal.loop-i-preserved-then-range
-loop-i-preserved-then-range c = (
-  search rules,
-  counted_some c.loop-i.invariant.1 c.clip_at-range.result.start c.clip_at-range.result.end c.clip_at-range.ensures c.loop-i-test.true
-      c.if-range.true c.push_pair.new.words c.push_pair.result c.push_pair.ensures.0 c.push_pair.ensures.1,
-)
+loop-i-init c = counted_start _ _ _ _ _
 
 pub loop-i-preserved : goal.loop-i-preserved
-loop-i-preserved c = (
-  search rules,
-  counted_none c.loop-i.invariant.1 c.clip_at-range.result.start c.clip_at-range.result.end c.clip_at-range.ensures c.loop-i-test.true c.if-range.false,
-)
-
-pub shape_of-out : goal.shape_of-out
-shape_of-out c = c.loop-i.invariant.1.size
+loop-i-preserved c =
+    let is = c.clip-range.ensures ∙ rw c.item_at.ensures in
+    elim c.if-range.branch [
+      | then-range w ↦ rw (w.k-is, w.out-is) (counted_some c.loop-i.invariant c.clip-range.result.start c.clip-range.result.end is c.loop-i-test.true w.if-range.true w.push_pair.new.words w.push_pair.result w.push_pair.ensures.0 w.push_pair.ensures.1)
+      | else-range w ↦ rw (w.k-is, w.out-is) (counted_none c.loop-i.invariant c.clip-range.result.start c.clip-range.result.end is c.loop-i-test.true w.if-range.false)
+    ]
 
 pub returns : goal.returns
-returns c = record { value = counted_all c.loop-i.invariant.1 c.loop-i-test.false; writes = counted_written c.loop-i.invariant.1 c.loop-i-test.false }
+returns c = record { value = counted_all c.loop-i.invariant c.loop-i-test.false; writes = counted_written c.loop-i.invariant c.loop-i-test.false }

