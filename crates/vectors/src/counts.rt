@@ -1,4 +1,6 @@
 // What is counted, and the lines that tell it.
+ghost use Rattle.std.specs.Prelude.{◌≡◌, ◌+◌, min, cond, not, ◌&&◌};
+
 use std::io;
 
 // How many answers are as recorded, and how many are not; and of the listed differences how many are answered as listed, and how many not.
@@ -20,8 +22,13 @@ impl Tally {
         }
     }
 
-    // One case more.
-    pub(crate) fn count(&mut self, is_listed: bool, is_as_recorded: bool) {
+    // One case more, counted in its place.
+    pub(crate) fn count(&mut self, is_listed: bool, is_as_recorded: bool)
+        ensures same { self.new.same ≡ cond (not is_listed && is_as_recorded) (min (self.old.same + 1) 18446744073709551615) self.old.same }
+        ensures other { self.new.other ≡ cond (not is_listed && not is_as_recorded) (min (self.old.other + 1) 18446744073709551615) self.old.other }
+        ensures listed { self.new.listed ≡ cond (is_listed && is_as_recorded) (min (self.old.listed + 1) 18446744073709551615) self.old.listed }
+        ensures unlisted { self.new.unlisted ≡ cond (is_listed && not is_as_recorded) (min (self.old.unlisted + 1) 18446744073709551615) self.old.unlisted }
+    {
         match (is_listed, is_as_recorded) {
             (false, true) => self.same = self.same.saturating_add(1),
             (false, false) => self.other = self.other.saturating_add(1),
