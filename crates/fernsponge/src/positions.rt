@@ -20,19 +20,20 @@ use position_mismatch::Compared;
 use position_report::PositionMismatch;
 use position_spans::Span;
 
-// The position of a key (01 m6.2).
+// A key that is no position: number 7, side 0, index 0.
+const NO_POSITION: u64 = 7;
+
+// The position of a key (01 m6.2, form.7).
 #[unsafe(no_mangle)]
 pub extern "C" fn fernsponge_be_u64(key: &[u8], position: &mut u64) -> u64
     ensures value { result ≡ returned (position_answer key.now) }
     ensures position_after { position.new ≡ left itself (position_answer key.now) position.old }
 {
-    match position_key::be_u64(key) {
-        Ok(p) => {
-            *position = p.0;
-            0
-        }
-        Err(refusal) => refusal_number(refusal),
-    }
+    let Ok(p) = position_key::be_u64(key) else {
+        return NO_POSITION;
+    };
+    *position = p.0;
+    0
 }
 
 // Writes the positions below count that items cover, as canonical pairs at the front of out, and tells how many pairs they are and how many rows

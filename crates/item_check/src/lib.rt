@@ -85,11 +85,18 @@ impl Reason {
 pub fn refuse<A>(reason: Reason, side: u32, index: usize) -> Result<A, Refusal>
     ensures { result ≡ refused (reason_number reason) side index }
 {
-    Err(Refusal {
-        number: reason.number(),
+    Err(refusal_of(reason.number(), side, index))
+}
+
+// inner: the refusal of a number, a side and an index.
+pub fn refusal_of(number: u32, side: u32, index: usize) -> Refusal
+    ensures { result ≡ refusal number side index }
+{
+    Refusal {
+        number,
         side,
         index,
-    })
+    }
 }
 
 // inner: the pool's size, before everything else.
@@ -204,10 +211,15 @@ pub fn check_formed(pool: &[u8], item: ItemWords, side: u32, index: usize) -> Re
 }
 
 // inner: the same of an item that has to be upright: 1, 2 or 3.
+#[tactic(auto, using(crate::proofs::Faults::key_upright))]
 pub fn check_upright(pool: &[u8], item: ItemWords, side: u32, index: usize) -> Result<(), Refusal>
     ensures { result ≡ fault_at (upright_fault pool.now item) side index }
 {
     check_formed(pool, item, side, index)?;
+    // a key is upright, whatever its bytes are
+    if item.code == 0 {
+        return Ok(());
+    }
     if !is_upright(pool, query_item(item).to_range_set()) {
         return refuse(Reason::NotUpright, side, index);
     }

@@ -128,7 +128,7 @@ fn front(words: &[u32], count: usize) -> &[u32]
     &words[..end]
 }
 
-// Asks for line after line of an answer and writes it, to the last one or to one that cannot be written, and answers how many there are.
+// Asks for line after line of an answer and writes it, to the last one or to one that cannot be written, and answers how many it has written.
 fn write_lines(
     rt: &impl Print,
     file: &[u8],
@@ -143,11 +143,13 @@ fn write_lines(
     let mut room = line_room();
     let line: &mut [u8] = &mut room;
     let lines = count_lines(answer);
+    let mut written: usize = 0;
     for i in 0..lines {
         let n = line_of(file, shared_out, ours_out, theirs_out, answer, i, line);
         rt.write_all(&line[..n])?;
+        written += 1;
     }
-    Ok(lines)
+    Ok(written)
 }
 
 fn count_lines(answer: Result<ManyCounts, Refusal>) -> usize

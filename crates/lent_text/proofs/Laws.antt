@@ -1,13 +1,14 @@
 -- Decimal digits, and bytes stored one after another. Assumes nothing.
-use Prim.Native.Nat.{ℕ, zero, suc, ◌+◌, ◌/◌, ◌%◌, ◌^◌, ◌-◌, ◌≤◌, ◌<◌, min}
+use Prim.Native.Nat.{ℕ, zero, suc, ◌+◌, ◌/◌, ◌%◌, ◌^◌, ◌≤◌, ◌<◌, min}
 use mathlib.Core.Path.{◌≡◌, refl, sym, ap, ◌∙◌}
 use mathlib.Core.List.{List, [], ◌∷◌, ◌++◌}
 use native.Mathlib.Decide.{dec_lt}
 use native.Mathlib.Nat.{pow-suc}
+use native.Mathlib.Numerals.{add-one}
 use native.Mathlib.Omega.{arith}
-use lib.ListN.{length, take, drop, set, length-append, length-set}
-use lib.Seq.{sets, sets-eq, set_out}
-use Rattle.std.proofs.lemmas.List.{append_assoc, take_all, length-take, drop-drop}
+use lib.ListN.{length, get_or, take, drop, set, length-append, length-set, drop_of_length-le}
+use lib.Seq.{sets, sets-eq, set_out, drop-cons}
+use Rattle.std.proofs.lemmas.List.{take_all}
 use borrow.Author.Tests.{lt-ltb, le-ltb}
 use Rattle.lent_text.specs.Text.{digits, decimal, stored}
 
@@ -95,17 +96,19 @@ stored_capped l at most j xs e h = elim (dec_lt most at) [
   | no p ↦ let q : j ≡ at = omega arith in rw q
 ]
 
--- so much of a text as has room
-pub stored_part : (l xs : List ℕ) (at n : ℕ) → n ≡ min (length xs) (length l - at) → at ≤ length l → take at l ++ (take n xs ++ drop n (drop at l)) ≡ stored l at xs
-unfolding stored
-stored_part l xs at n e h =
-    let size : length (take n xs) ≡ n = omega (arith, length-take n xs) in
-    let laid : sets l at (take n xs) ≡ take at l ++ (take n xs ++ drop (at + n) l) = rw (size, append_assoc) at (sets-eq (take n xs) l at (omega arith)) in
-    (rw (drop-drop n at l) (sym laid)) ∙ fits (dec_lt (length l - at) (length xs))
-  where
-    fits : Dec (length l - at < length xs) → sets l at (take n xs) ≡ sets l at xs
-    fits (yes p) = sets_short xs l at n (omega arith)
-    fits (no p) = ap (sets l at) (take_all n xs (omega arith))
+-- ---- a text byte by byte
+
+pub text_turn : (l m text : List ℕ) (at i : ℕ) → i < length text → m ≡ stored l (at + i) (get_or text i 0 ∷ [])
+    → stored m (at + (i + 1)) (drop (i + 1) text) ≡ stored l (at + i) (drop i text)
+text_turn l m text at i h is =
+    let q : at + (i + 1) ≡ at + i + 1 = omega arith in
+    rw (is, q, add-one i, drop-cons text i 0 h) (stored_append l (at + i) (get_or text i 0 ∷ []) (drop (suc i) text))
+
+pub text_done : (l text : List ℕ) (at i : ℕ) → length text ≤ i → stored l at (drop i text) ≡ l
+text_done l text at i h = rw (drop_of_length-le text {i = i} h) (stored_none l at)
+
+pub text_start : (l text : List ℕ) (at : ℕ) → stored l (at + 0) (drop 0 text) ≡ stored l at text
+text_start l text at = let q : at + 0 ≡ at = omega arith in rw q
 
 -- texts one after another, of j, k, .. bytes
 

@@ -29,9 +29,11 @@ pub fn put_past(out: &mut [u8], at: usize, i: usize, byte: u8)
 pub fn put_text(out: &mut [u8], at: usize, text: &[u8]) -> usize
     ensures { (result ≡ length text.now) × (out.new ≡ stored out.old at text.now) }
 {
+    // no `copy_from_slice`: the archive for C would ask for memcpy and memmove
     if at < out.len() {
-        let n = text.len().min(out.len() - at);
-        out[at..at + n].copy_from_slice(&text[..n]);
+        for (i, byte) in text.iter().enumerate() {
+            put_past(out, at, i, *byte);
+        }
     }
     text.len()
 }

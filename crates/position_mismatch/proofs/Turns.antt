@@ -1,8 +1,6 @@
 -- The passes over proved positions: where the walk for the missing ones, and the search for the extra ones, stand after some positions.
 -- Assumes nothing.
-use Prim.Native.Nat.{ℕ, suc, ◌+◌, ◌/◌, ◌≤◌, ◌<◌, min, max}
-use Rattle.std.specs.Prelude.{Option, Some, None}
-use Rattle.std.specs.Option.{MatchOption, unwrap_or}
+use Prim.Native.Nat.{ℕ, suc, ◌+◌, ◌/◌, ◌≤◌, ◌<◌, min}
 use mathlib.Core.Path.{◌≡◌, refl, sym, ap, ◌∙◌}
 use mathlib.Core.Bool.{Bool, true, false, not, ◌&&◌}
 use mathlib.Core.List.{List, [], ◌∷◌, ◌++◌, append-nil}
@@ -75,14 +73,6 @@ module _ {ws P : List ℕ} (S : Sound ws) where
   seen_end {w} {i} W N h = reached_end ws (is_in (take i P)) w P W S N.reached (λ p l. rw (take_all i P h))
 
 -- ---- the extra ones
-
--- what `find` tells of the pairs from an index on
-pub first_found : (ws : List ℕ) (from p : ℕ) (r : Option ℕ) (m : ℕ)
-    → MatchOption r ((k : ℕ) → from ≤ k → k < length ws / 2 → finish ws k ≤ p)
-    (λ i. (from ≤ i) × (i < length ws / 2) × (p < finish ws i) × ((k : ℕ) → from ≤ k → k < i → finish ws k ≤ p))
-    → m ≡ max from (length ws / 2) → FirstPast ws from p (unwrap_or r m)
-first_found ws from p None m f is = record { after = omega arith; passed = λ k h l. f k h (omega arith); found = λ h. absurd (omega arith) }
-first_found ws from p (Some i) m f is = record { after = f.0; passed = f.3; found = λ h. f.2 }
 
 -- after i of the positions: the report is theirs, and no pair that is passed ends above one of the others
 pub record Sorted (ws P : List ℕ) (report : PositionMismatch) (pair i : ℕ) : Type 0 where

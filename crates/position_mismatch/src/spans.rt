@@ -9,6 +9,7 @@ ghost use Rattle.position_mismatch.specs.Inner.{start_of, step_of, finish_of};
 use crate::{Compared, SpanWalk, Walk};
 use item_check::{Reason, refuse};
 use position_given::{LAST_WORD, check_intervals};
+use position_report::PositionMismatch;
 
 // inner: which covered positions no span contains, of spans as words in pairs. An odd last word is no span (01 m6.11, form.9).
 pub fn missing_from_span_words(intervals: &[u64], spans: &[u64]) -> Compared
@@ -49,14 +50,26 @@ impl SpanWalk {
     }
 
     // inner: after the last span: what is left of the intervals is missing.
-    pub fn finish(mut self, intervals: &[u64]) -> Compared
+    pub fn finish(self, intervals: &[u64]) -> Compared
         ensures { result ≡ finish_of intervals.now self }
     {
         match self.checked {
             Err(r) => Compared::of(Err(r)),
             Ok(()) => {
-                self.walk.report_until(intervals, LAST_WORD);
-                Compared::of(Ok(self.walk.report))
+                // part by part: a walk that is copied whole asks C's library for memcpy
+                let examples = self.walk.report.examples;
+                let report = PositionMismatch {
+                    total: self.walk.report.total,
+                    count: self.walk.report.count,
+                    examples,
+                };
+                let mut walk = Walk {
+                    pair: self.walk.pair,
+                    from: self.walk.from,
+                    report,
+                };
+                walk.report_until(intervals, LAST_WORD);
+                Compared::of(Ok(walk.report))
             }
         }
     }

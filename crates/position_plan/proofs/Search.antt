@@ -1,7 +1,5 @@
 -- The search for the next run of missing rows: what a pair, the first proved position from a row on, and the positions that go on from there tell.
 -- Assumes nothing.
-use Rattle.std.specs.Prelude.{Option, Some, None}
-use Rattle.std.specs.Option.{MatchOption, unwrap_or}
 use Prim.Native.Nat.{ℕ, ◌+◌, ◌-◌, ◌/◌, ◌≤◌, ◌<◌, min, max}
 use mathlib.Core.Path.{◌≡◌, sym, ◌∙◌}
 use mathlib.Core.Bool.{true, false, cond, not, ◌&&◌, and-false}
@@ -178,11 +176,3 @@ module _ {ws P : List ℕ} (S : Sound ws) (A : Ascends 0 P) {from i j x : ℕ} (
         where
           unproved : (p : ℕ) → y ≤ p → p < t → is_in P p ≡ false
           unproved p a b = in_gap 0 P j' p A (λ k u. omega (arith, rows_below k u)) (λ u. omega (arith, stop_some u))
-
--- what `find` tells of the positions from an index on
-pub first_found : (l : List ℕ) (i x : ℕ) (r : Option ℕ) (m : ℕ)
-    → MatchOption r ((k : ℕ) → i ≤ k → k < length l → get_or l k 0 < x)
-    (λ f. (i ≤ f) × (f < length l) × (x ≤ get_or l f 0) × ((k : ℕ) → i ≤ k → k < f → get_or l k 0 < x))
-    → m ≡ max i (length l) → FirstFrom l i x (unwrap_or r m)
-first_found l i x None m f is = record { after = omega arith; passed = λ k h u. f k h (omega arith); found = λ h. absurd (omega arith) }
-first_found l i x (Some k) m f is = record { after = f.0; passed = f.3; found = λ h. f.2 }

@@ -111,16 +111,25 @@ fn goes_back(proved: &[u64], to: usize, s: u64, e: u64) -> usize
 fn first_from(proved: &[u64], from: usize, x: u64) -> usize
     ensures { FirstFrom proved.now from x result }
 {
-    let count = proved.len();
-    (from..count)
-        .find(|i| x <= proved[*i])
-        .unwrap_or(from.max(count))
+    if proved.len() <= from {
+        return from;
+    }
+    // no `find`, as in `first_past` of position_mismatch
+    for i in from..proved.len() {
+        if x <= proved[i] {
+            return i;
+        }
+    }
+    proved.len()
 }
 
 // The first index, from an index on, at which the proved positions do not go on with row s, the row after it, and so on below e.
 fn goes_on(proved: &[u64], from: usize, s: u64, e: u64) -> usize
     ensures { GoesOn proved.now from s e result }
 {
+    if proved.len() <= from {
+        return from;
+    }
     let mut x = s;
     for i in from..proved.len() {
         if !((x < e) & (proved[i] == x)) {
@@ -128,7 +137,7 @@ fn goes_on(proved: &[u64], from: usize, s: u64, e: u64) -> usize
         }
         x += 1;
     }
-    from.max(proved.len())
+    proved.len()
 }
 
 // Where a run that would end at e stops: at proved position j where that is below.

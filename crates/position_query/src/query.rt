@@ -130,7 +130,9 @@ fn past(pool: &[u8], end: RangeSetItem) -> Result<LogPosition, Refusal>
 fn key_after(pool: &[u8], key: KeyAt) -> Result<LogPosition, Refusal>
     ensures { position_of result ≡ after_of (position_answer (bytes_of pool.now key)) }
 {
-    let p = be_u64(key_bytes(pool, key))?;
+    let Ok(p) = be_u64(key_bytes(pool, key)) else {
+        return refuse(Reason::NoPosition, 0, 0);
+    };
     Ok(LogPosition(p.0.saturating_add(1)))
 }
 

@@ -71,8 +71,11 @@ fn show_run(
     ensures value { result ≡ min (most_reported - n) width }
     ensures examples_after { examples.new ≡ sets examples.old n (count_up from (min (most_reported - n) width)) }
 {
-    let places = PositionMismatch::MAX_REPORTED_POSITIONS.saturating_sub(n);
-    let shown = width.min(places as u64);
+    // most runs come when there is no place left
+    if n >= PositionMismatch::MAX_REPORTED_POSITIONS {
+        return 0;
+    }
+    let shown = width.min((PositionMismatch::MAX_REPORTED_POSITIONS - n) as u64);
     for k in 0..shown {
         examples[n + k as usize] = from + k;
     }

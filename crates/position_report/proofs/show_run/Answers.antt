@@ -2,8 +2,12 @@ use Prim.Native.Nat.{◌-◌, min}
 use native.Mathlib.Omega.{arith}
 use Rattle.position_report.specs.Reports.{most_reported}
 use mathlib.Core.Path.{◌≡◌, sym, ◌∙◌}
-use Rattle.position_report.proofs.Runs.{run_start_lem, run_more, run_end}
+use Rattle.position_report.proofs.Runs.{run_none, run_start_lem, run_more, run_end}
 use Rattle.position_report.proofs.show_run.Goals as goal
+
+-- there is no place
+pub returns-then-n-ge-MAX_REPORTED_POSITIONS-clause-examples_after : goal.returns-then-n-ge-MAX_REPORTED_POSITIONS-clause-examples_after
+returns-then-n-ge-MAX_REPORTED_POSITIONS-clause-examples_after c = run_none _ _ _ _ (omega arith)
 
 pub loop-k-init : goal.loop-k-init
 loop-k-init c = run_start_lem _ _ _ _
