@@ -71,7 +71,7 @@ fn show_run(
     ensures value { result ≡ min (most_reported - n) width }
     ensures examples_after { examples.new ≡ sets examples.old n (count_up from (min (most_reported - n) width)) }
 {
-    // most runs come when there is no place left
+    // in a long report most runs come when there is no place left
     if n >= PositionMismatch::MAX_REPORTED_POSITIONS {
         return 0;
     }

@@ -7,10 +7,11 @@ use vectors::{Reader, Recorded, lent};
 
 // Inputs: a key. The answer is its position.
 pub(crate) fn be_u64(mut x: Reader<'_>, recorded: Recorded<'_>) -> bool {
-    match position_key::be_u64(x.key()) {
-        Ok(position) => recorded.answers(|held| held.long(position.0)),
-        Err(refusal) => recorded.refuses(refusal),
-    }
+    let answer = position_key::be_u64(x.key());
+    let Ok(position) = answer else {
+        return answer.is_err_and(|refusal| recorded.refuses(refusal));
+    };
+    recorded.answers(|held| held.long(position.0))
 }
 
 // Inputs: a pool, the count of rows, the numbers lent (2 bytes), how many items have positions (2 bytes), and the items, after their number
